@@ -1,0 +1,358 @@
+// What can be wrong with a field, and the results that come from the input (11 to 16).
+ghost use mathlib.Core.Path.{_≡_};
+ghost use Prim.Native.Nat.{_^_};
+ghost use Rattle.kinds.specs.Table.{isBlank};
+ghost use Rattle.faults.specs.Faults.{misspelled, missing, extra, beyond, outside, anyFault, atLeast, dangling, notThere, hasFault, lowestFault};
+ghost use Rattle.faults.specs.Answers.{numberOf, fieldOf};
+ghost use Rattle.faults.specs.Look.{wrongForm, fieldsAnswer, unread, lookOf};
+use kinds::Counts;
+use kinds::Filled;
+use kinds::Kind;
+use kinds::Letter;
+use kinds::Range;
+use kinds::Rule;
+use kinds::Shape;
+use kinds::Sort;
+use record::Content;
+use record::Field;
+use record::Record;
+
+// What can be wrong with a field. Any: one of the four above it, which are the faults of the input.
+pub enum Fault {
+    Misspelled,
+    Missing,
+    Extra,
+    OutOfRange,
+    Any,
+    NotThere(Counts),
+}
+
+// What a record is answered; with a field, counted from 1, where one is named.
+pub enum Answer {
+    Taken,
+    NotARecord,
+    NoLineFeed,
+    NoSuchKind,
+    Misspelled(u8),
+    Misfilled(u8),
+    OutOfRange(u8),
+    OutOfOrder,
+    NoRoom,
+    NotThere(u8),
+    Misplaced(u8),
+    WrongWayIn,
+}
+
+// What a record's bytes say, and the answer to them so far.
+pub struct Look {
+    pub shape: Shape,
+    pub row: Record,
+    pub answer: Answer,
+}
+
+fn is_misspelled(content: Content) -> bool
+    ensures { λ r. ⌜ r ≡ misspelled content ⌝ }
+{
+    match content {
+        Content::Blank => false,
+        Content::Number(_) => false,
+        Content::Bad => true,
+    }
+}
+
+// Whether a field is blank.
+pub fn is_blank(content: Content) -> bool
+    ensures { λ r. ⌜ r ≡ isBlank content ⌝ }
+{
+    match content {
+        Content::Blank => true,
+        Content::Number(_) => false,
+        Content::Bad => false,
+    }
+}
+
+// Needed and blank.
+fn is_missing(rule: Rule, content: Content) -> bool
+    ensures { λ r. ⌜ r ≡ missing rule content ⌝ }
+{
+    match rule {
+        Rule::Blank => false,
+        Rule::Needed(_) => is_blank(content),
+        Rule::Optional(_) => false,
+    }
+}
+
+// Filled, and must be blank.
+fn is_extra(rule: Rule, content: Content) -> bool
+    ensures { λ r. ⌜ r ≡ extra rule content ⌝ }
+{
+    match rule {
+        Rule::Blank => kinds::is_number(content),
+        Rule::Needed(_) => false,
+        Rule::Optional(_) => false,
+    }
+}
+
+// A number outside a range.
+fn is_beyond(range: Range, content: Content) -> bool
+    ensures { λ r. ⌜ r ≡ beyond range content ⌝ }
+{
+    match content {
+        Content::Blank => false,
+        Content::Number(x) => {
+            if x < range.low {
+                return true;
+            }
+            range.high < x
+        }
+        Content::Bad => false,
+    }
+}
+
+// A number outside the range of its rule.
+fn is_outside(rule: Rule, content: Content) -> bool
+    ensures { λ r. ⌜ r ≡ outside rule content ⌝ }
+{
+    match rule {
+        Rule::Blank => false,
+        Rule::Needed(sort) => is_beyond(kinds::range_of(sort), content),
+        Rule::Optional(sort) => is_beyond(kinds::range_of(sort), content),
+    }
+}
+
+// Some fault of the input.
+fn has_any_fault(rule: Rule, content: Content) -> bool
+    ensures { λ r. ⌜ r ≡ anyFault rule content ⌝ }
+{
+    if is_misspelled(content) {
+        return true;
+    }
+    if is_missing(rule, content) {
+        return true;
+    }
+    if is_extra(rule, content) {
+        return true;
+    }
+    is_outside(rule, content)
+}
+
+// A number that is m or more.
+fn is_at_least(m: usize, content: Content) -> bool
+    ensures { λ r. ⌜ r ≡ atLeast m content ⌝ }
+{
+    match content {
+        Content::Blank => false,
+        Content::Number(x) => {
+            if x < 0 {
+                return false;
+            }
+            m <= x as usize
+        }
+        Content::Bad => false,
+    }
+}
+
+// A set with a bit at or above n.
+fn has_bit_from(n: usize, content: Content) -> bool
+    ensures { λ r. ⌜ r ≡ atLeast (2 ^ n) content ⌝ }
+{
+    let set = kinds::natural_of(content);
+    if 32 <= n {
+        return false;
+    }
+    0 < set >> n
+}
+
+// A reference to an item that is not there, or a set with a mark at or above the number of sentences.
+fn is_dangling(counts: Counts, sort: Sort, content: Content) -> bool
+    ensures { λ r. ⌜ r ≡ dangling counts sort content ⌝ }
+{
+    match sort {
+        Sort::Reference(kind) => is_at_least(counts.of(kind), content),
+        Sort::Marks => has_bit_from(counts.sentences, content),
+        Sort::Propositions => false,
+        Sort::Coefficient => false,
+        Sort::Bound => false,
+        Sort::Update => false,
+        Sort::Form => false,
+        Sort::Proposition => false,
+        Sort::LoopLength => false,
+        Sort::Rounds => false,
+    }
+}
+
+fn is_not_there(counts: Counts, rule: Rule, content: Content) -> bool
+    ensures { λ r. ⌜ r ≡ notThere counts rule content ⌝ }
+{
+    match rule {
+        Rule::Blank => false,
+        Rule::Needed(sort) => is_dangling(counts, sort, content),
+        Rule::Optional(sort) => is_dangling(counts, sort, content),
+    }
+}
+
+fn has_fault(fault: Fault, rule: Rule, content: Content) -> bool
+    ensures { λ r. ⌜ r ≡ hasFault fault rule content ⌝ }
+{
+    match fault {
+        Fault::Misspelled => is_misspelled(content),
+        Fault::Missing => is_missing(rule, content),
+        Fault::Extra => is_extra(rule, content),
+        Fault::OutOfRange => is_outside(rule, content),
+        Fault::Any => has_any_fault(rule, content),
+        Fault::NotThere(counts) => is_not_there(counts, rule, content),
+    }
+}
+
+// The lowest field with a fault, counted from 0; the number of fields where there is none.
+pub fn lowest_fault(fault: Fault, shape: Shape, row: Record) -> usize
+    ensures { λ r. ⌜ r ≡ lowestFault fault shape row ⌝ }
+{
+    let fields = row.fields;
+    let mut k: usize = 0;
+    while k < Record::FIELDS {
+        let field = fields[k];
+        let content = field.content;
+        if has_fault(fault, kinds::rule_at(shape, k), content) {
+            return k;
+        }
+        k = k + 1;
+    }
+    Record::FIELDS
+}
+
+// A sentence whose form is filled, but is none.
+fn has_wrong_form(shape: Shape, row: Record) -> bool
+    ensures { λ r. ⌜ r ≡ wrongForm shape row ⌝ }
+{
+    let kind = shape.kind;
+    let fields = row.fields;
+    let first = fields[0];
+    let content = first.content;
+    match kind {
+        Kind::State => false,
+        Kind::Guard => false,
+        Kind::Move => false,
+        Kind::Sentence => is_outside(Rule::Needed(Sort::Form), content),
+        Kind::Place => false,
+    }
+}
+
+// 14, 16 for a form, 15 and 16, in this order. The first test settles a record with no fault in one pass.
+fn fields_answer(shape: Shape, row: Record) -> Answer
+    ensures { λ r. ⌜ r ≡ fieldsAnswer shape row ⌝ }
+{
+    if lowest_fault(Fault::Any, shape, row) == Record::FIELDS {
+        return Answer::Taken;
+    }
+    let bad = lowest_fault(Fault::Misspelled, shape, row);
+    if bad < Record::FIELDS {
+        return Answer::Misspelled((bad + 1) as u8);
+    }
+    if has_wrong_form(shape, row) {
+        return Answer::OutOfRange(1);
+    }
+    let missing = lowest_fault(Fault::Missing, shape, row);
+    if missing < Record::FIELDS {
+        return Answer::Misfilled((missing + 1) as u8);
+    }
+    let extra = lowest_fault(Fault::Extra, shape, row);
+    if extra < Record::FIELDS {
+        return Answer::Misfilled((extra + 1) as u8);
+    }
+    let outside = lowest_fault(Fault::OutOfRange, shape, row);
+    if outside < Record::FIELDS {
+        return Answer::OutOfRange((outside + 1) as u8);
+    }
+    Answer::Taken
+}
+
+// A record of which no field is read.
+fn unread_with(answer: Answer) -> Look
+    ensures { λ r. ⌜ r ≡ unread answer ⌝ }
+{
+    let blank = Field {
+        content: Content::Blank,
+    };
+    let fields = [blank; Record::FIELDS];
+    Look {
+        shape: Shape {
+            kind: Kind::State,
+            form: 0,
+            filled: Filled {
+                at: [false; Record::FIELDS],
+            },
+        },
+        row: Record { fields: fields },
+        answer: answer,
+    }
+}
+
+// What a record's bytes say: 11, 12, 13, then the fields.
+pub fn look_at(bytes: &[u8]) -> Look
+    ensures { λ r. ⌜ r ≡ lookOf (now (bytes .entry)) ⌝ }
+{
+    if bytes.len() != Record::LENGTH {
+        return unread_with(Answer::NotARecord);
+    }
+    let last = bytes[Record::LENGTH - 1];
+    if last != b'\n' {
+        return unread_with(Answer::NoLineFeed);
+    }
+    let letter = kinds::kind_of(bytes[0]);
+    match letter {
+        Letter::Names(kind) => {
+            let row = Record::read(bytes);
+            let shape = kinds::shape_of(kind, row);
+            let answer = fields_answer(shape, row);
+            Look {
+                shape: shape,
+                row: row,
+                answer: answer,
+            }
+        }
+        Letter::Unknown => unread_with(Answer::NoSuchKind),
+    }
+}
+
+impl Answer {
+    // Document 01's number of an answer.
+    pub fn number(self) -> u8
+        ensures { λ r. ⌜ r ≡ numberOf self ⌝ }
+    {
+        match self {
+            Answer::Taken => 0,
+            Answer::NotARecord => 11,
+            Answer::NoLineFeed => 12,
+            Answer::NoSuchKind => 13,
+            Answer::Misspelled(_) => 14,
+            Answer::Misfilled(_) => 15,
+            Answer::OutOfRange(_) => 16,
+            Answer::OutOfOrder => 21,
+            Answer::NoRoom => 22,
+            Answer::NotThere(_) => 23,
+            Answer::Misplaced(_) => 25,
+            Answer::WrongWayIn => 26,
+        }
+    }
+
+    // The field that an answer names, counted from 1; 0 where it names none.
+    pub fn field(self) -> u8
+        ensures { λ r. ⌜ r ≡ fieldOf self ⌝ }
+    {
+        match self {
+            Answer::Taken => 0,
+            Answer::NotARecord => 0,
+            Answer::NoLineFeed => 0,
+            Answer::NoSuchKind => 0,
+            Answer::Misspelled(field) => field,
+            Answer::Misfilled(field) => field,
+            Answer::OutOfRange(field) => field,
+            Answer::OutOfOrder => 0,
+            Answer::NoRoom => 0,
+            Answer::NotThere(field) => field,
+            Answer::Misplaced(field) => field,
+            Answer::WrongWayIn => 2,
+        }
+    }
+}

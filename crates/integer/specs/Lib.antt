@@ -1,0 +1,6 @@
+pub mod Signed
+pub mod Tests
+pub mod Cases
+pub mod Lists
+pub mod Tab
+pub mod Lowest

@@ -1,0 +1,1 @@
+// Laws of integers and of lists: no code. They stand in specs/.

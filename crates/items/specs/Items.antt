@@ -1,0 +1,166 @@
+-- The items of a case: what a record's fields become, and the fields of an item again.
+use mathlib.Core.List.{List, [], _∷_, _++_, map}
+use mathlib.Core.Bool.{cond}
+use Prim.Native.Nat.{ℕ, zero, suc, _+_, _-_, _%_}
+use lib.IntN.{ℤ, pos, negsuc}
+use lib.Signed.{ltZ}
+use lib.ListN.{length, replicate}
+use Rattle.integer.specs.Tab.{tab}
+use Rattle.record.specs.declared.Content.{Content}
+use Rattle.record.specs.declared.Content.the-variants.{Blank, Number, Bad}
+use Rattle.record.specs.declared.Field.{Field}
+use Rattle.record.specs.Layout.{fields, at}
+use Rattle.kinds.specs.declared.Kind.{Kind}
+use Rattle.kinds.specs.declared.Kind.the-variants as kind
+use Rattle.kinds.specs.declared.PerCounter.{PerCounter}
+use Rattle.kinds.specs.Table.{natural, counters}
+use Rattle.items.specs.declared.Ref.{Ref}
+use Rattle.items.specs.declared.Ref.the-variants as ref
+use Rattle.items.specs.declared.Term.{Term}
+use Rattle.items.specs.declared.Term.the-variants as term
+use Rattle.items.specs.declared.Form.{Form}
+use Rattle.items.specs.declared.Form.the-variants as form
+use Rattle.items.specs.declared.LoopMark.{LoopMark}
+use Rattle.items.specs.declared.LoopMark.the-variants as mark
+use Rattle.items.specs.declared.State.{State}
+use Rattle.items.specs.declared.Guard.{Guard}
+use Rattle.items.specs.declared.Move.{Move}
+use Rattle.items.specs.declared.Sentence.{Sentence}
+use Rattle.items.specs.declared.Place.{Place}
+
+-- the items of a kind
+abbrev pub Item : Kind → Type 0
+Item kind.State = State
+Item kind.Guard = Guard
+Item kind.Move = Move
+Item kind.Sentence = Sentence
+Item kind.Place = Place
+
+-- ---- from fields to items. Each field is cut to the width at which it is kept; no number in its range is changed by that.
+
+abbrev pub byteOf : Content → ℕ
+byteOf c = natural c % 256
+
+abbrev pub wordOf : Content → ℕ
+wordOf c = natural c % 65536
+
+abbrev pub integerOf : Content → ℤ
+integerOf Blank = pos 0
+integerOf (Number z) = z
+integerOf Bad = pos 0
+
+-- a number that 16 bits hold, and 0 for any other
+abbrev pub shortOf : ℤ → ℤ
+shortOf z = cond (ltZ z (negsuc 32767)) (pos 0) (cond (ltZ (pos 32767) z) (pos 0) z)
+
+-- a number for each counter, from field k on, counted from 0
+unfoldable pub perCounter : List Field → ℕ → PerCounter
+perCounter r k = record { at = tab counters 0 (λ (j : ℕ). shortOf (integerOf (at r (k + j)))) }
+
+abbrev pub refOf : Content → Ref
+refOf Blank = ref.None
+refOf (Number z) = ref.At (byteOf (Number z))
+refOf Bad = ref.None
+
+-- a term, of its coefficient and its sentence
+abbrev pub termOf : Content → Content → Term
+termOf Blank s = term.None
+termOf (Number z) s = term.Some (shortOf z) (byteOf s)
+termOf Bad s = term.None
+
+unfoldable pub stateOf : List Field → State
+stateOf r = record { propositions = wordOf (at r 0) }
+
+unfoldable pub guardOf : List Field → Guard
+guardOf r = record { coefficients = perCounter r 0; bound = integerOf (at r counters) }
+
+unfoldable pub moveOf : List Field → Move
+moveOf r =
+    record {
+      from = byteOf (at r 0);
+      to = byteOf (at r 1);
+      updates = perCounter r 2;
+      guard1 = refOf (at r (2 + counters));
+      guard2 = refOf (at r (3 + counters));
+    }
+
+-- the sentence of a form
+unfoldable pub formOf : ℕ → List Field → Form
+formOf zero r = form.True
+formOf (suc zero) r = form.Proposition (byteOf (at r 1))
+formOf (suc (suc zero)) r = form.Guard (byteOf (at r 1))
+formOf (suc (suc (suc zero))) r = form.And (byteOf (at r 1)) (byteOf (at r 2))
+formOf (suc (suc (suc (suc zero)))) r = form.Not (byteOf (at r 1))
+formOf (suc (suc (suc (suc (suc zero))))) r = form.Next (byteOf (at r 1))
+formOf (suc (suc (suc (suc (suc (suc zero)))))) r =
+    form.Until (byteOf (at r 1)) (byteOf (at r 2)) (integerOf (at r 3)) (termOf (at r 4) (at r 5)) (termOf (at r 6) (at r 7))
+formOf (suc (suc (suc (suc (suc (suc (suc n))))))) r = form.True
+
+unfoldable pub sentenceOf : List Field → Sentence
+sentenceOf r = record { form = formOf (natural (at r 0)) r }
+
+-- a loop mark, of its length, its rounds and its back move: none, counted where rounds are given, or endless
+unfoldable pub markOf : Content → Content → Content → LoopMark
+markOf Blank n b = mark.None
+markOf (Number z) Blank b = mark.Endless (byteOf (Number z)) (byteOf b)
+markOf (Number z) (Number n) b = mark.Counted (byteOf (Number z)) (natural (Number n)) (byteOf b)
+markOf (Number z) Bad b = mark.None
+markOf Bad n b = mark.None
+
+unfoldable pub placeOf : List Field → Place
+placeOf r =
+    record { state = byteOf (at r 0); way = refOf (at r 1); marks = natural (at r 2); mark = markOf (at r 3) (at r 4) (at r 5) }
+
+-- the item that a record of this kind becomes
+abbrev pub itemOf : (k : Kind) → List Field → Item k
+itemOf kind.State r = stateOf r
+itemOf kind.Guard r = guardOf r
+itemOf kind.Move r = moveOf r
+itemOf kind.Sentence r = sentenceOf r
+itemOf kind.Place r = placeOf r
+
+-- ---- from items to fields
+
+abbrev pub integer : ℤ → Field
+integer z = record { content = Number z }
+
+abbrev pub number : ℕ → Field
+number n = integer (pos n)
+
+abbrev pub blank : Field
+blank = record { content = Blank }
+
+abbrev pub reference : Ref → Field
+reference ref.None = blank
+reference (ref.At n) = number n
+
+abbrev pub termFields : Term → List Field
+termFields term.None = blank ∷ blank ∷ []
+termFields (term.Some c s) = integer c ∷ number s ∷ []
+
+abbrev pub formFields : Form → List Field
+formFields form.True = number 0 ∷ []
+formFields (form.Proposition p) = number 1 ∷ number p ∷ []
+formFields (form.Guard g) = number 2 ∷ number g ∷ []
+formFields (form.And a b) = number 3 ∷ number a ∷ number b ∷ []
+formFields (form.Not a) = number 4 ∷ number a ∷ []
+formFields (form.Next a) = number 5 ∷ number a ∷ []
+formFields (form.Until a b z t u) = number 6 ∷ number a ∷ number b ∷ integer z ∷ (termFields t ++ termFields u)
+
+abbrev pub markFields : LoopMark → List Field
+markFields mark.None = []
+markFields (mark.Counted l n b) = number l ∷ number n ∷ number b ∷ []
+markFields (mark.Endless l b) = number l ∷ blank ∷ number b ∷ []
+
+-- the filled part of an item's row
+abbrev pub filledOf : (k : Kind) → Item k → List Field
+filledOf kind.State s = number (s .propositions) ∷ []
+filledOf kind.Guard g = map integer (g .coefficients .at) ++ (integer (g .bound) ∷ [])
+filledOf kind.Move m =
+    number (m .from) ∷ number (m .to) ∷ (map integer (m .updates .at) ++ (reference (m .guard1) ∷ reference (m .guard2) ∷ []))
+filledOf kind.Sentence s = formFields (s .form)
+filledOf kind.Place p = number (p .state) ∷ reference (p .way) ∷ number (p .marks) ∷ markFields (p .mark)
+
+-- the row of an item: its fields, and blanks
+unfoldable pub rowOf : (k : Kind) → Item k → List Field
+rowOf k x = filledOf k x ++ replicate (fields - length (filledOf k x)) blank

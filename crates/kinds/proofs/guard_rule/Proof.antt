@@ -1,0 +1,20 @@
+-- The row of a guard is a coefficient for each counter, then a bound. Assumes nothing.
+use mathlib.Core.Path.{refl}
+use native.Mathlib.Omega.{arith}
+use Rattle.integer.specs.Lists.{past-end, in-run}
+use Rattle.kinds.specs.declared.Rule.the-variants.{Blank}
+use Rattle.kinds.specs.Table.{guardRow, counters}
+use Rattle.kinds.proofs.guard_rule.Statement.{statement}
+use Rattle.kinds.proofs.guard_rule.Tie as tie
+
+returns : tie.Need-returns
+returns c = in-run Blank (guardRow counters) (c .before .args .k) 0 counters refl (omega arith) (omega arith)
+
+returns-2 : tie.Need-returns-2
+returns-2 c = simp (c .if2 .taken)
+
+returns-3 : tie.Need-returns-3
+returns-3 c = past-end Blank (guardRow counters) (c .before .before .args .k) (omega arith)
+
+pub guard-rule-spec : {M : Type 1} → statement M
+guard-rule-spec = tie.close (tie.spec returns returns-2 returns-3)

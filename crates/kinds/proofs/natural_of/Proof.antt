@@ -1,0 +1,54 @@
+-- The number as it is, or 0 where it is below 0. Assumes nothing.
+use mir.Syntax.{w32}
+use mir.Val.{SFits}
+use mir.Facts.{toZ-ofZ, fits-natAbs}
+use Rattle.kinds.proofs.Natural.{below, not-below, same}
+use borrow.Author.Needs.{needs}
+use Rattle.kinds.proofs.natural_of.Statement.{statement}
+use Rattle.kinds.proofs.natural_of.Tie as tie
+
+enum-told : tie.Need-enum-told
+enum-told c = search needs
+
+enum-known-content : tie.Need-enum-known-content
+enum-known-content c = search needs
+
+cast-result : tie.Need-cast-result
+cast-result c =
+    let m = c .before .before .content .given in
+    let f : SFits w32 (m .0 .0) = search needs in
+    rw (toZ-ofZ f) (not-below (m .0 .0) (simp (toZ-ofZ f) at (c .if1 .left)), fits-natAbs tt f)
+
+enum-told-2 : tie.Need-enum-told-2
+enum-told-2 c = search needs
+
+returns : tie.Need-returns
+returns c = search needs
+
+returns-2 : tie.Need-returns-2
+returns-2 c =
+    let m = c .before .before .content .given in
+    let f : SFits w32 (m .0 .0) = search needs in
+    simp (m .1) (below (m .0 .0) (simp (toZ-ofZ f) at (c .if1 .taken)))
+
+returns-3 : tie.Need-returns-3
+returns-3 c =
+    let m = c .before .before .content .given in
+    let f : SFits w32 (m .0 .0) = search needs in
+    simp (m .1, toZ-ofZ f) (same (m .0 .0) (simp (toZ-ofZ f) at (c .if1 .left)))
+
+returns-4 : tie.Need-returns-4
+returns-4 c = search needs
+
+pub natural-of-spec : {M : Type 1} → statement M
+natural-of-spec =
+    tie.close
+    (tie.spec
+    enum-told
+    enum-known-content
+    cast-result
+    enum-told-2
+    returns
+    returns-2
+    returns-3
+    returns-4)

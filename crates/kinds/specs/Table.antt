@@ -1,0 +1,144 @@
+-- What each kind of record needs, may have and allows (document 01, "The record"): one row of rules for each kind and form, field 1 first.
+-- Fields past the end of a row are blank.
+use mathlib.Core.List.{List, [], _∷_, _++_}
+use mathlib.Core.Bool.{Bool, true, false, _||_}
+use Prim.Native.Nat.{ℕ, _+_, _-_}
+use lib.IntN.{ℤ, pos, negsuc, negℤ}
+use lib.ListN.{replicate, getD}
+use Rattle.integer.specs.Tab.{tab}
+use Rattle.record.specs.declared.Content.{Content}
+use Rattle.record.specs.declared.Content.the-variants.{Blank, Number, Bad}
+use Rattle.record.specs.declared.Field.{Field}
+use Rattle.record.specs.declared.Record.{Record}
+use Rattle.record.specs.Layout.{fields, at}
+use Rattle.kinds.specs.declared.Kind.{Kind}
+use Rattle.kinds.specs.declared.Kind.the-variants.{State, Guard, Move, Sentence, Place}
+use Rattle.kinds.specs.declared.Sort.{Sort}
+use Rattle.kinds.specs.declared.Sort.the-variants.{Propositions, Coefficient, Bound, Update, Form, Proposition, Marks, LoopLength, Rounds, Reference}
+use Rattle.kinds.specs.declared.Rule.{Rule}
+use Rattle.kinds.specs.declared.Rule.the-variants as rule
+use Rattle.kinds.specs.declared.Rule.the-variants.{Needed, Optional}
+use Rattle.kinds.specs.declared.Range.{Range}
+use Rattle.kinds.specs.declared.Filled.{Filled}
+use Rattle.kinds.specs.declared.Shape.{Shape}
+
+-- the number of counters
+abbrev pub counters : ℕ
+counters = 4
+
+-- a field that may be blank, but is needed where the test holds
+abbrev pub neededIf : Bool → Sort → Rule
+neededIf true s = Needed s
+neededIf false s = Optional s
+
+-- the fields of an until after its form; x tells which fields are filled, counted from 1
+abbrev pub untilParts : (ℕ → Bool) → List Rule
+untilParts x =
+    Needed (Reference Sentence)
+    ∷ Needed (Reference Sentence)
+    ∷ Needed Bound
+    ∷ neededIf (x 6 || (x 7 || x 8)) Coefficient
+    ∷ neededIf (x 5 || (x 7 || x 8)) (Reference Sentence)
+    ∷ neededIf (x 8) Coefficient
+    ∷ neededIf (x 7) (Reference Sentence)
+    ∷ []
+
+-- the fields after the form: of true, a proposition, a guard, and, not, next, until
+abbrev pub formRows : (ℕ → Bool) → List (List Rule)
+formRows x =
+    []
+    ∷ (Needed Proposition ∷ [])
+    ∷ (Needed (Reference Guard) ∷ [])
+    ∷ (Needed (Reference Sentence) ∷ Needed (Reference Sentence) ∷ [])
+    ∷ (Needed (Reference Sentence) ∷ [])
+    ∷ (Needed (Reference Sentence) ∷ [])
+    ∷ untilParts x
+    ∷ []
+
+abbrev pub partsOf : ℕ → (ℕ → Bool) → List Rule
+partsOf f x = getD (formRows x) f []
+
+-- the rows of the kinds, with n counters
+abbrev pub stateRow : List Rule
+stateRow = Needed Propositions ∷ []
+
+abbrev pub guardRow : ℕ → List Rule
+guardRow n = replicate n (Needed Coefficient) ++ (Needed Bound ∷ [])
+
+abbrev pub moveRow : ℕ → (ℕ → Bool) → List Rule
+moveRow n x =
+    let guards = neededIf (x (n + 4)) (Reference Guard) ∷ Optional (Reference Guard) ∷ [] in
+    Needed (Reference State) ∷ Needed (Reference State) ∷ (replicate n (Needed Update) ++ guards)
+
+abbrev pub sentenceRow : ℕ → (ℕ → Bool) → List Rule
+sentenceRow f x = Needed Form ∷ partsOf f x
+
+abbrev pub placeRow : (ℕ → Bool) → List Rule
+placeRow x =
+    Needed (Reference State)
+    ∷ Optional (Reference Move)
+    ∷ Needed Marks
+    ∷ neededIf (x 5 || x 6) LoopLength
+    ∷ Optional Rounds
+    ∷ neededIf (x 4) (Reference Move)
+    ∷ []
+
+-- the row of a kind and a form
+abbrev pub rowOf : ℕ → Kind → ℕ → (ℕ → Bool) → List Rule
+rowOf n State f x = stateRow
+rowOf n Guard f x = guardRow n
+rowOf n Move f x = moveRow n x
+rowOf n Sentence f x = sentenceRow f x
+rowOf n Place f x = placeRow x
+
+-- the numbers from low to high
+abbrev pub between : ℤ → ℤ → Range
+between low high = record { low = low; high = high }
+
+-- the numbers that a field of each sort allows; a bound may be any number that a field can spell
+abbrev pub rangeOf : Sort → Range
+rangeOf Propositions = between (pos 0) (pos 65535)
+rangeOf Coefficient = between (negℤ (pos 999)) (pos 999)
+rangeOf Bound = between (negℤ (pos 999999)) (pos 9999999)
+rangeOf Update = between (negℤ (pos 9999)) (pos 9999)
+rangeOf Form = between (pos 0) (pos 6)
+rangeOf Proposition = between (pos 0) (pos 15)
+rangeOf Marks = between (pos 0) (pos 1048575)
+rangeOf LoopLength = between (pos 1) (pos 64)
+rangeOf Rounds = between (pos 1) (pos 1000000)
+rangeOf (Reference k) = between (pos 0) (pos 63)
+
+-- whether a field is blank, and whether it is filled
+abbrev pub isBlank : Content → Bool
+isBlank Blank = true
+isBlank (Number z) = false
+isBlank Bad = false
+
+abbrev pub isNumber : Content → Bool
+isNumber Blank = false
+isNumber (Number z) = true
+isNumber Bad = false
+
+-- the number of a field that is 0 or more, and 0 of any other
+abbrev pub natural : Content → ℕ
+natural Blank = 0
+natural (Number (pos n)) = n
+natural (Number (negsuc n)) = 0
+natural Bad = 0
+
+-- what decides the rules of a record: its kind, its form and which fields are filled
+unfoldable pub shapeOf : Kind → Record → Shape
+shapeOf k r =
+    record {
+      kind = k;
+      form = natural (at (r .fields) 0);
+      filled = record { at = tab fields 0 (λ (i : ℕ). isNumber (at (r .fields) i)) };
+    }
+
+-- field n is filled, counted from 1
+abbrev pub inFilled : Filled → ℕ → Bool
+inFilled x n = getD (x .at) (n - 1) false
+
+-- the rule of field k, counted from 0
+unfoldable pub ruleAt : Shape → ℕ → Rule
+ruleAt s k = getD (rowOf counters (s .kind) (s .form) (inFilled (s .filled))) k rule.Blank

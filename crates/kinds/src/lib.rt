@@ -1,0 +1,315 @@
+// The kinds of records, and what each kind needs, may have and allows in each field.
+ghost use mathlib.Core.Path.{_≡_};
+ghost use mathlib.Core.Bool.{false, _||_};
+ghost use mathlib.Core.List.{_∷_};
+ghost use lib.ListN.{getD, replicate};
+ghost use Rattle.kinds.specs.declared.Rule.the-variants as rule;
+ghost use Rattle.kinds.specs.declared.Sort.the-variants.{Form};
+ghost use Rattle.kinds.specs.Kinds.{kindOf, countOf};
+ghost use Rattle.kinds.specs.Table.{neededIf, rangeOf, isNumber, natural, shapeOf, ruleAt, stateRow, guardRow, moveRow, sentenceRow, placeRow, counters, inFilled};
+use record::Content;
+use record::Record;
+
+// The kinds of records: states, guards, moves (transitions), sentences (CLTL formulas) and places (states of the path schema).
+pub enum Kind {
+    State,
+    Guard,
+    Move,
+    Sentence,
+    Place,
+}
+
+// What a kind letter says.
+pub enum Letter {
+    Names(Kind),
+    Unknown,
+}
+
+// What the number in a field is.
+pub enum Sort {
+    Propositions,
+    Coefficient,
+    Bound,
+    Update,
+    Form,
+    Proposition,
+    Marks,
+    LoopLength,
+    Rounds,
+    Reference(Kind),
+}
+
+// What a field must be.
+pub enum Rule {
+    Blank,
+    Needed(Sort),
+    Optional(Sort),
+}
+
+// The numbers from low to high.
+pub struct Range {
+    pub low: i32,
+    pub high: i32,
+}
+
+// Which fields are filled.
+pub struct Filled {
+    pub at: [bool; Record::FIELDS],
+}
+
+// What decides the rules of a record's fields.
+pub struct Shape {
+    pub kind: Kind,
+    pub form: u32,
+    pub filled: Filled,
+}
+
+// How many items of each kind a case holds.
+pub struct Counts {
+    pub states: usize,
+    pub guards: usize,
+    pub moves: usize,
+    pub sentences: usize,
+    pub places: usize,
+}
+
+// A number for each counter.
+pub struct PerCounter {
+    pub at: [i16; PerCounter::COUNT],
+}
+
+impl PerCounter {
+    // The number of counters.
+    pub const COUNT: usize = 4;
+}
+
+// The kind that a letter names.
+pub fn kind_of(letter: u8) -> Letter
+    ensures { λ r. ⌜ r ≡ kindOf letter ⌝ }
+{
+    match letter {
+        b'S' => Letter::Names(Kind::State),
+        b'G' => Letter::Names(Kind::Guard),
+        b'T' => Letter::Names(Kind::Move),
+        b'F' => Letter::Names(Kind::Sentence),
+        b'P' => Letter::Names(Kind::Place),
+        _ => Letter::Unknown,
+    }
+}
+
+impl Counts {
+    // How many items of a kind are held.
+    pub fn of(self, kind: Kind) -> usize
+        ensures { λ r. ⌜ r ≡ countOf self kind ⌝ }
+    {
+        match kind {
+            Kind::State => self.states,
+            Kind::Guard => self.guards,
+            Kind::Move => self.moves,
+            Kind::Sentence => self.sentences,
+            Kind::Place => self.places,
+        }
+    }
+}
+
+// The numbers that a field of each sort allows.
+pub fn range_of(sort: Sort) -> Range
+    ensures { λ r. ⌜ r ≡ rangeOf sort ⌝ }
+{
+    match sort {
+        Sort::Propositions => between(0, 65535),
+        Sort::Coefficient => between(-999, 999),
+        Sort::Bound => between(-999999, 9999999),
+        Sort::Update => between(-9999, 9999),
+        Sort::Form => between(0, 6),
+        Sort::Proposition => between(0, 15),
+        Sort::Marks => between(0, 1048575),
+        Sort::LoopLength => between(1, 64),
+        Sort::Rounds => between(1, 1000000),
+        Sort::Reference(_) => between(0, 63),
+    }
+}
+
+fn between(low: i32, high: i32) -> Range
+    ensures { λ r. ⌜ r ≡ record { low = low; high = high } ⌝ }
+{
+    Range {
+        low: low,
+        high: high,
+    }
+}
+
+// Whether a field is filled.
+pub fn is_number(content: Content) -> bool
+    ensures { λ r. ⌜ r ≡ isNumber content ⌝ }
+{
+    match content {
+        Content::Blank => false,
+        Content::Number(_) => true,
+        Content::Bad => false,
+    }
+}
+
+// The number of a field that is 0 or more, and 0 of any other.
+pub fn natural_of(content: Content) -> u32
+    ensures { λ r. ⌜ r ≡ natural content ⌝ }
+{
+    match content {
+        Content::Blank => 0,
+        Content::Number(x) => { if x < 0 { 0 } else { x as u32 } }
+        Content::Bad => 0,
+    }
+}
+
+// The shape of a record of this kind.
+pub fn shape_of(kind: Kind, row: Record) -> Shape
+    ensures { λ r. ⌜ r ≡ shapeOf kind row ⌝ }
+{
+    let fields = row.fields;
+    let first = fields[0];
+    let mut filled = [false; Record::FIELDS];
+    let mut k: usize = 0;
+    while k < Record::FIELDS {
+        let field = fields[k];
+        let content = field.content;
+        filled[k] = is_number(content);
+        k = k + 1;
+    }
+    let content = first.content;
+    let form = natural_of(content);
+    Shape {
+        kind: kind,
+        form: form,
+        filled: Filled { at: filled },
+    }
+}
+
+// A field that may be blank, but is needed where the test holds.
+fn needed_if(needed: bool, sort: Sort) -> Rule
+    ensures { λ r. ⌜ r ≡ neededIf needed sort ⌝ }
+{
+    if needed {
+        Rule::Needed(sort)
+    } else {
+        Rule::Optional(sort)
+    }
+}
+
+fn any(a: bool, b: bool) -> bool
+    ensures { λ r. ⌜ r ≡ (a || b) ⌝ }
+{
+    if a { true } else { b }
+}
+
+// The rule of field k, counted from 0, of each kind.
+fn state_rule(k: usize) -> Rule
+    ensures { λ r. ⌜ r ≡ getD stateRow k rule.Blank ⌝ }
+{
+    if k == 0 {
+        Rule::Needed(Sort::Propositions)
+    } else {
+        Rule::Blank
+    }
+}
+
+fn guard_rule(k: usize) -> Rule
+    ensures { λ r. ⌜ r ≡ getD (guardRow counters) k rule.Blank ⌝ }
+{
+    if k < PerCounter::COUNT {
+        return Rule::Needed(Sort::Coefficient);
+    }
+    if k == PerCounter::COUNT {
+        return Rule::Needed(Sort::Bound);
+    }
+    Rule::Blank
+}
+
+fn move_rule(filled: Filled, k: usize) -> Rule
+    ensures { λ r. ⌜ r ≡ getD (moveRow counters (inFilled filled)) k rule.Blank ⌝ }
+{
+    let x = filled.at;
+    if k < 2 {
+        return Rule::Needed(Sort::Reference(Kind::State));
+    }
+    if k < 2 + PerCounter::COUNT {
+        return Rule::Needed(Sort::Update);
+    }
+    if k == 2 + PerCounter::COUNT {
+        return needed_if(x[3 + PerCounter::COUNT], Sort::Reference(Kind::Guard));
+    }
+    if k == 3 + PerCounter::COUNT {
+        return Rule::Optional(Sort::Reference(Kind::Guard));
+    }
+    Rule::Blank
+}
+
+// The rule of field k of a sentence that has n fields of one sort after its form.
+fn parts_rule(n: usize, sort: Sort, k: usize) -> Rule
+    ensures { λ r. ⌜ r ≡ getD (rule.Needed Form ∷ replicate n (rule.Needed sort)) k rule.Blank ⌝ }
+{
+    if k == 0 {
+        return Rule::Needed(Sort::Form);
+    }
+    if k <= n {
+        return Rule::Needed(sort);
+    }
+    Rule::Blank
+}
+
+fn until_rule(filled: Filled, k: usize) -> Rule
+    ensures { λ r. ⌜ r ≡ getD (sentenceRow 6 (inFilled filled)) k rule.Blank ⌝ }
+{
+    let x = filled.at;
+    match k {
+        3 => Rule::Needed(Sort::Bound),
+        4 => needed_if(any(x[5], any(x[6], x[7])), Sort::Coefficient),
+        5 => needed_if(any(x[4], any(x[6], x[7])), Sort::Reference(Kind::Sentence)),
+        6 => needed_if(x[7], Sort::Coefficient),
+        7 => needed_if(x[6], Sort::Reference(Kind::Sentence)),
+        _ => parts_rule(2, Sort::Reference(Kind::Sentence), k),
+    }
+}
+
+fn sentence_rule(form: u32, filled: Filled, k: usize) -> Rule
+    ensures { λ r. ⌜ r ≡ getD (sentenceRow form (inFilled filled)) k rule.Blank ⌝ }
+{
+    match form {
+        1 => parts_rule(1, Sort::Proposition, k),
+        2 => parts_rule(1, Sort::Reference(Kind::Guard), k),
+        3 => parts_rule(2, Sort::Reference(Kind::Sentence), k),
+        4 => parts_rule(1, Sort::Reference(Kind::Sentence), k),
+        5 => parts_rule(1, Sort::Reference(Kind::Sentence), k),
+        6 => until_rule(filled, k),
+        _ => parts_rule(0, Sort::Form, k),
+    }
+}
+
+fn place_rule(filled: Filled, k: usize) -> Rule
+    ensures { λ r. ⌜ r ≡ getD (placeRow (inFilled filled)) k rule.Blank ⌝ }
+{
+    let x = filled.at;
+    match k {
+        0 => Rule::Needed(Sort::Reference(Kind::State)),
+        1 => Rule::Optional(Sort::Reference(Kind::Move)),
+        2 => Rule::Needed(Sort::Marks),
+        3 => needed_if(any(x[4], x[5]), Sort::LoopLength),
+        4 => Rule::Optional(Sort::Rounds),
+        5 => needed_if(x[3], Sort::Reference(Kind::Move)),
+        _ => Rule::Blank,
+    }
+}
+
+// The rule of field k, counted from 0.
+pub fn rule_at(shape: Shape, k: usize) -> Rule
+    ensures { λ r. ⌜ r ≡ ruleAt shape k ⌝ }
+{
+    let kind = shape.kind;
+    let filled = shape.filled;
+    match kind {
+        Kind::State => state_rule(k),
+        Kind::Guard => guard_rule(k),
+        Kind::Move => move_rule(filled, k),
+        Kind::Sentence => sentence_rule(shape.form, filled, k),
+        Kind::Place => place_rule(filled, k),
+    }
+}

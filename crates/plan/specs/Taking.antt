@@ -1,0 +1,126 @@
+-- What taking a record hands back: the results that come from the state (21 to 26), each stage named, and the case after it.
+use mathlib.Core.List.{List, [], _∷_}
+use mathlib.Core.Bool.{Bool, true, false, cond, _&&_, _||_}
+use Prim.Native.Nat.{ℕ, zero, suc, _+_}
+use lib.Dec.{eqb, leb, ltb}
+use lib.ListN.{length, take, drop}
+use Rattle.record.specs.declared.Field.{Field}
+use Rattle.record.specs.declared.Record.{Record}
+use Rattle.record.specs.Layout.{at, recordLength}
+use Rattle.kinds.specs.declared.Kind.{Kind}
+use Rattle.kinds.specs.declared.Kind.the-variants as kind
+use Rattle.kinds.specs.declared.Counts.{Counts}
+use Rattle.kinds.specs.declared.Shape.{Shape}
+use Rattle.kinds.specs.Kinds.{rankOf, countOf}
+use Rattle.kinds.specs.Table.{natural, isNumber, isBlank}
+use Rattle.faults.specs.declared.Fault.the-variants as fault
+use Rattle.faults.specs.declared.Answer.{Answer}
+use Rattle.faults.specs.declared.Answer.the-variants.{Taken, NotARecord, NoLineFeed, NoSuchKind, Misspelled, Misfilled, OutOfRange, OutOfOrder, NoRoom, NotThere, Misplaced, WrongWayIn}
+use Rattle.faults.specs.declared.Look.{Look}
+use Rattle.faults.specs.Faults.{lowestFault}
+use Rattle.faults.specs.Look.{lookOf, orElse}
+use Rattle.plan.specs.declared.Loops.{Loops}
+use Rattle.plan.specs.declared.Case.{Case}
+use Rattle.plan.specs.declared.Result.{Result}
+use Rattle.plan.specs.declared.Run.{Run}
+use Rattle.items.specs.Items.{itemOf}
+use Rattle.plan.specs.Cases.{roomOf, with}
+
+-- the endless loop has closed where n places are held; a loop is open there
+abbrev pub isClosed : Loops → ℕ → Bool
+isClosed l n = l .endless && leb (l .end .0) n
+
+abbrev pub isOpen : Loops → ℕ → Bool
+isOpen l n = ltb n (l .end .0)
+
+-- a loop of this length that begins at place n would pass the last place
+abbrev pub isLong : ℕ → ℕ → Bool
+isLong n len = ltb (roomOf kind.Place) (n + len)
+
+-- 26: field 2 filled at place 0, or blank later
+unfoldable pub wayAnswer : ℕ → List Field → Answer
+wayAnswer n r = cond (cond (eqb n 0) (isNumber (at r 1)) (isBlank (at r 1))) WrongWayIn Taken
+
+-- 25: a loop mark inside an open loop, or one whose loop would pass the last place
+unfoldable pub markAnswer : Loops → ℕ → List Field → Answer
+markAnswer l n r = cond (isNumber (at r 3) && (isOpen l n || isLong n (natural (at r 3)))) (Misplaced 4) (wayAnswer n r)
+
+-- 25: a place after the endless loop has closed
+unfoldable pub placeAnswer : Loops → ℕ → List Field → Answer
+placeAnswer l n r = cond (isClosed l n) (Misplaced 0) (markAnswer l n r)
+
+abbrev pub layoutAnswer : Kind → Counts → Loops → List Field → Answer
+layoutAnswer kind.State n l r = Taken
+layoutAnswer kind.Guard n l r = Taken
+layoutAnswer kind.Move n l r = Taken
+layoutAnswer kind.Sentence n l r = Taken
+layoutAnswer kind.Place n l r = placeAnswer l (n .places) r
+
+-- 23
+unfoldable pub thereAnswer : Counts → Loops → Shape → Record → Answer
+thereAnswer n l s r = orElse (lowestFault (fault.NotThere n) s r) NotThere (layoutAnswer (s .kind) n l (r .fields))
+
+-- 22
+unfoldable pub roomAnswer : Counts → Loops → Shape → Record → Answer
+roomAnswer n l s r = cond (leb (roomOf (s .kind)) (countOf n (s .kind))) NoRoom (thereAnswer n l s r)
+
+-- the rank of the last kind that is held
+abbrev pub lastRank : Counts → ℕ
+lastRank n =
+    cond (ltb 0 (n .places)) (rankOf kind.Place)
+    (cond (ltb 0 (n .sentences)) (rankOf kind.Sentence)
+    (cond (ltb 0 (n .moves)) (rankOf kind.Move) (cond (ltb 0 (n .guards)) (rankOf kind.Guard) (rankOf kind.State))))
+
+-- 21: a kind after a later kind
+unfoldable pub orderAnswer : Counts → Loops → Shape → Record → Answer
+orderAnswer n l s r = cond (ltb (rankOf (s .kind)) (lastRank n)) OutOfOrder (roomAnswer n l s r)
+
+abbrev pub isTaken : Answer → Bool
+isTaken Taken = true
+isTaken NotARecord = false
+isTaken NoLineFeed = false
+isTaken NoSuchKind = false
+isTaken (Misspelled f) = false
+isTaken (Misfilled f) = false
+isTaken (OutOfRange f) = false
+isTaken OutOfOrder = false
+isTaken NoRoom = false
+isTaken (NotThere f) = false
+isTaken (Misplaced f) = false
+isTaken WrongWayIn = false
+
+-- the answer to a record, where so many items and these loops are held
+unfoldable pub answerOf : Counts → Loops → Look → Answer
+answerOf n l k = cond (isTaken (k .answer)) (orderAnswer n l (k .shape) (k .row)) (k .answer)
+
+-- taking a record: the item is stored where it is taken, and else nothing changes
+unfoldable pub takenBy : Case → Look → Result
+takenBy c k =
+    record {
+      case =
+          cond (isTaken (answerOf (c .count) (c .loops) k)) (with c (k .shape .kind) (itemOf (k .shape .kind) (k .row .fields))) c;
+      answer = answerOf (c .count) (c .loops) k;
+    }
+
+unfoldable pub takenOf : Case → List ℕ → Result
+takenOf c bs = takenBy c (lookOf bs)
+
+-- a file is a row of records, the last of which may be short; at most n are cut off
+unfoldable pub cutFrom : ℕ → List ℕ → List (List ℕ)
+cutFrom zero bs = []
+cutFrom (suc n) [] = []
+cutFrom (suc n) (b ∷ bs) = take recordLength (b ∷ bs) ∷ cutFrom n (drop recordLength (b ∷ bs))
+
+unfoldable pub cut : List ℕ → List (List ℕ)
+cut bs = cutFrom (length bs) bs
+
+-- taking records in order, up to the first that is refused; m were taken before
+unfoldable pub runFrom : Case → ℕ → List (List ℕ) → Run
+runFrom c m [] = record { case = c; answer = Taken; taken = m }
+runFrom c m (r ∷ rs) =
+    let t = takenOf c r in
+    let rest = runFrom (t .case) (m + 1) rs in
+    cond (isTaken (t .answer)) rest (record { case = t .case; answer = t .answer; taken = m })
+
+unfoldable pub runOf : Case → List ℕ → Run
+runOf c bs = runFrom c 0 (cut bs)

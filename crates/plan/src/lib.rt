@@ -1,0 +1,401 @@
+// A case, and its collector: a record's bytes become the next item of their kind, or are refused and nothing changes.
+ghost use mathlib.Core.Path.{_≡_};
+ghost use mathlib.Core.Bool.{cond};
+ghost use lib.Dec.{ltb};
+ghost use Prim.Native.Nat.{_+_, _-_, _≤_, _<_, _^_, min};
+ghost use Rattle.record.specs.Layout.{recordLength};
+ghost use Rattle.kinds.specs.declared.Kind.the-variants as kind;
+ghost use Rattle.kinds.specs.Kinds.{rankOf, countOf};
+ghost use Rattle.plan.specs.Cases.{emptyCase, roomOf, loopsAfter};
+ghost use Rattle.plan.specs.Taking.{isClosed, isTaken, lastRank, wayAnswer, markAnswer, placeAnswer, layoutAnswer, orderAnswer, answerOf, takenOf, runOf};
+use faults::Answer;
+use faults::Fault;
+use faults::Look;
+use items::Form;
+use items::Guard;
+use items::LoopMark;
+use items::Move;
+use items::Place;
+use items::Ref;
+use items::Sentence;
+use items::State;
+use kinds::Counts;
+use kinds::Kind;
+use kinds::PerCounter;
+use kinds::Shape;
+use record::Record;
+
+// The number of a place, counted from 0.
+pub struct PlaceNo(pub usize);
+
+// The last loop so far: the place after it (0 where there is no loop), and whether it is endless. It follows from the places.
+pub struct Loops {
+    pub end: PlaceNo,
+    pub endless: bool,
+}
+
+// A case: the items of each kind, how many there are, and the loops so far.
+pub struct Case {
+    pub count: Counts,
+    pub loops: Loops,
+    pub states: [State; Case::STATES],
+    pub guards: [Guard; Case::GUARDS],
+    pub moves: [Move; Case::MOVES],
+    pub sentences: [Sentence; Case::SENTENCES],
+    pub places: [Place; Case::PLACES],
+}
+
+// What taking a record hands back.
+pub struct Result {
+    pub case: Case,
+    pub answer: Answer,
+}
+
+// What taking the records of a file hands back: the last answer, and how many records were taken before it.
+pub struct Run {
+    pub case: Case,
+    pub answer: Answer,
+    pub taken: usize,
+}
+
+fn is_taken(answer: Answer) -> bool
+    ensures { λ r. ⌜ r ≡ isTaken answer ⌝ }
+{
+    match answer {
+        Answer::Taken => true,
+        Answer::NotARecord => false,
+        Answer::NoLineFeed => false,
+        Answer::NoSuchKind => false,
+        Answer::Misspelled(_) => false,
+        Answer::Misfilled(_) => false,
+        Answer::OutOfRange(_) => false,
+        Answer::OutOfOrder => false,
+        Answer::NoRoom => false,
+        Answer::NotThere(_) => false,
+        Answer::Misplaced(_) => false,
+        Answer::WrongWayIn => false,
+    }
+}
+
+// The order in which kinds come.
+fn rank(kind: Kind) -> usize
+    ensures { λ r. ⌜ r ≡ rankOf kind ⌝ }
+{
+    match kind {
+        Kind::State => 0,
+        Kind::Guard => 1,
+        Kind::Move => 2,
+        Kind::Sentence => 3,
+        Kind::Place => 4,
+    }
+}
+
+// How many items of a kind a case has room for.
+fn room_of(kind: Kind) -> usize
+    ensures { λ r. ⌜ r ≡ roomOf kind ⌝ }
+{
+    match kind {
+        Kind::State => Case::STATES,
+        Kind::Guard => Case::GUARDS,
+        Kind::Move => Case::MOVES,
+        Kind::Sentence => Case::SENTENCES,
+        Kind::Place => Case::PLACES,
+    }
+}
+
+// A kind's rank where items of it are held, and else the other.
+fn rank_if(held: usize, kind: Kind, other: usize) -> usize
+    ensures { λ r. ⌜ r ≡ cond (ltb 0 held) (rankOf kind) other ⌝ }
+{
+    if 0 < held { rank(kind) } else { other }
+}
+
+// The rank of the last kind that is held.
+fn last_rank(count: Counts) -> usize
+    ensures { λ r. ⌜ r ≡ lastRank count ⌝ }
+{
+    let guards = rank_if(count.guards, Kind::Guard, rank(Kind::State));
+    let moves = rank_if(count.moves, Kind::Move, guards);
+    let sentences = rank_if(count.sentences, Kind::Sentence, moves);
+    rank_if(count.places, Kind::Place, sentences)
+}
+
+impl Loops {
+    // The loops after place n, with this mark.
+    fn after(self, n: usize, mark: LoopMark) -> Loops
+        requires { ⌜ n + 255 < 2 ^ 64 ⌝ }
+        ensures { λ r. ⌜ r ≡ loopsAfter self n mark ⌝ }
+    {
+        match mark {
+            LoopMark::None => self,
+            LoopMark::Counted {
+                length,
+                rounds: _,
+                back: _,
+            } => Loops {
+                end: PlaceNo(n + length as usize),
+                endless: false,
+            },
+            LoopMark::Endless { length, back: _ } => Loops {
+                end: PlaceNo(n + length as usize),
+                endless: true,
+            },
+        }
+    }
+
+    // Whether the endless loop has closed where n places are held.
+    fn closed(self, n: usize) -> bool
+        ensures { λ r. ⌜ r ≡ isClosed self n ⌝ }
+    {
+        let end = self.end;
+        if self.endless { end.0 <= n } else { false }
+    }
+}
+
+// 26: field 2 filled at place 0, or blank later.
+fn way_answer(n: usize, row: Record) -> Answer
+    ensures { λ r. ⌜ r ≡ wayAnswer n (row .fields) ⌝ }
+{
+    let filled = kinds::is_number(items::content_at(row, 1));
+    if n == 0 {
+        if filled {
+            return Answer::WrongWayIn;
+        }
+        return Answer::Taken;
+    }
+    if faults::is_blank(items::content_at(row, 1)) {
+        return Answer::WrongWayIn;
+    }
+    Answer::Taken
+}
+
+// 25: a loop mark inside an open loop, or one whose loop would pass the last place.
+fn mark_answer(loops: Loops, n: usize, row: Record) -> Answer
+    requires { ⌜ n ≤ roomOf kind.Place ⌝ }
+    ensures { λ r. ⌜ r ≡ markAnswer loops n (row .fields) ⌝ }
+{
+    let length = items::content_at(row, 3);
+    if kinds::is_number(length) {
+        let end = loops.end;
+        if n < end.0 {
+            return Answer::Misplaced(4);
+        }
+        if Case::PLACES < n + kinds::natural_of(length) as usize {
+            return Answer::Misplaced(4);
+        }
+    }
+    way_answer(n, row)
+}
+
+// 25: a place after the endless loop has closed.
+fn place_answer(loops: Loops, n: usize, row: Record) -> Answer
+    requires { ⌜ n ≤ roomOf kind.Place ⌝ }
+    ensures { λ r. ⌜ r ≡ placeAnswer loops n (row .fields) ⌝ }
+{
+    if loops.closed(n) {
+        return Answer::Misplaced(0);
+    }
+    mark_answer(loops, n, row)
+}
+
+// 25 and 26, of a place.
+fn layout_answer(count: Counts, loops: Loops, kind: Kind, row: Record) -> Answer
+    requires { ⌜ countOf count kind ≤ roomOf kind ⌝ }
+    ensures { λ r. ⌜ r ≡ layoutAnswer kind count loops (row .fields) ⌝ }
+{
+    match kind {
+        Kind::State => Answer::Taken,
+        Kind::Guard => Answer::Taken,
+        Kind::Move => Answer::Taken,
+        Kind::Sentence => Answer::Taken,
+        Kind::Place => place_answer(loops, count.places, row),
+    }
+}
+
+// The results that come from the state, in order: 21, 22, 23, 25, 26.
+fn state_answer(count: Counts, loops: Loops, shape: Shape, row: Record) -> Answer
+    ensures { λ r. ⌜ r ≡ orderAnswer count loops shape row ⌝ }
+{
+    let kind = shape.kind;
+    if rank(kind) < last_rank(count) {
+        return Answer::OutOfOrder;
+    }
+    if room_of(kind) <= count.of(kind) {
+        return Answer::NoRoom;
+    }
+    let absent = faults::lowest_fault(Fault::NotThere(count), shape, row);
+    if absent < Record::FIELDS {
+        return Answer::NotThere((absent + 1) as u8);
+    }
+    layout_answer(count, loops, kind, row)
+}
+
+// The answer to a record, where so many items and these loops are held.
+fn answer_of(count: Counts, loops: Loops, look: Look) -> Answer
+    ensures { λ r. ⌜ r ≡ answerOf count loops look ⌝ }
+{
+    let answer = look.answer;
+    if is_taken(answer) {
+        let shape = look.shape;
+        let row = look.row;
+        return state_answer(count, loops, shape, row);
+    }
+    answer
+}
+
+impl Case {
+    // How many items of each kind a case has room for.
+    pub const STATES: usize = 32;
+
+    pub const GUARDS: usize = 32;
+
+    pub const MOVES: usize = 64;
+
+    pub const SENTENCES: usize = 20;
+
+    pub const PLACES: usize = 64;
+
+    pub fn empty() -> Case
+        ensures { λ r. ⌜ r ≡ emptyCase ⌝ }
+    {
+        let count = Counts {
+            states: 0,
+            guards: 0,
+            moves: 0,
+            sentences: 0,
+            places: 0,
+        };
+        let loops = Loops {
+            end: PlaceNo(0),
+            endless: false,
+        };
+        let zeros = PerCounter {
+            at: [0i16; PerCounter::COUNT],
+        };
+        let state = State { propositions: 0 };
+        let guard = Guard {
+            coefficients: zeros,
+            bound: 0,
+        };
+        let step = Move {
+            from: 0,
+            to: 0,
+            updates: zeros,
+            guard1: Ref::None,
+            guard2: Ref::None,
+        };
+        let sentence = Sentence { form: Form::True };
+        let place = Place {
+            state: 0,
+            way: Ref::None,
+            marks: 0,
+            mark: LoopMark::None,
+        };
+        let states = [state; Case::STATES];
+        let guards = [guard; Case::GUARDS];
+        let moves = [step; Case::MOVES];
+        let sentences = [sentence; Case::SENTENCES];
+        let places = [place; Case::PLACES];
+        Case {
+            count: count,
+            loops: loops,
+            states: states,
+            guards: guards,
+            moves: moves,
+            sentences: sentences,
+            places: places,
+        }
+    }
+
+    // Takes the records of a file in order, up to the first that is refused.
+    pub fn take_all(mut self, src: &[u8]) -> Run
+        ensures { λ r. ⌜ r ≡ runOf self (now (src .entry)) ⌝ }
+    {
+        let mut at: usize = 0;
+        let mut taken: usize = 0;
+        while at < src.len() {
+            let e = record_end(at, src.len());
+            let look = faults::look_at(&src[at..e]);
+            let answer = answer_of(self.count, self.loops, look);
+            if is_taken(answer) {
+                let shape = look.shape;
+                let row = look.row;
+                let kind = shape.kind;
+                match kind {
+                    Kind::State => {
+                        let n = self.count.states;
+                        self.states[n] = items::state_of(row);
+                        self.count.states = n + 1;
+                    }
+                    Kind::Guard => {
+                        let n = self.count.guards;
+                        self.guards[n] = items::guard_of(row);
+                        self.count.guards = n + 1;
+                    }
+                    Kind::Move => {
+                        let n = self.count.moves;
+                        self.moves[n] = items::move_of(row);
+                        self.count.moves = n + 1;
+                    }
+                    Kind::Sentence => {
+                        let n = self.count.sentences;
+                        self.sentences[n] = items::sentence_of(row);
+                        self.count.sentences = n + 1;
+                    }
+                    Kind::Place => {
+                        let n = self.count.places;
+                        let place = items::place_of(row);
+                        self.places[n] = place;
+                        self.count.places = n + 1;
+                        let mark = place.mark;
+                        self.loops = self.loops.after(n, mark);
+                    }
+                }
+            } else {
+                return Run {
+                    case: self,
+                    answer: answer,
+                    taken: taken,
+                };
+            }
+            at = e;
+            taken = taken + 1;
+        }
+        Run {
+            case: self,
+            answer: Answer::Taken,
+            taken: taken,
+        }
+    }
+
+    // Takes one record: the case with its item, or the case as it was.
+    pub fn take(self, bytes: &[u8]) -> Result
+        ensures { λ r. ⌜ r ≡ takenOf self (now (bytes .entry)) ⌝ }
+    {
+        if bytes.len() != Record::LENGTH {
+            return Result {
+                case: self,
+                answer: Answer::NotARecord,
+            };
+        }
+        let run = self.take_all(bytes);
+        let case = run.case;
+        let answer = run.answer;
+        Result {
+            case: case,
+            answer: answer,
+        }
+    }
+}
+
+// Where the record that begins at `at` ends: a record's length further, or at the end of the file.
+fn record_end(at: usize, length: usize) -> usize
+    requires { ⌜ at ≤ length ⌝ }
+    ensures { λ r. ⌜ r ≡ at + min recordLength (length - at) ⌝ }
+{
+    if length - at < Record::LENGTH {
+        length
+    } else {
+        at + Record::LENGTH
+    }
+}

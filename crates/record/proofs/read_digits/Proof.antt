@@ -1,0 +1,111 @@
+-- `record::read_digits` meets its contract. The loop's invariant: what is left to read, after the digits read so far, says what the whole says, and
+-- the number so far is below 10 to the bytes passed. The measure is what is left of the length. Assumes nothing.
+use mathlib.Core.Path.{_≡_, refl, _∙_, sym, ap}
+use mathlib.Core.Bool.{Bool, false}
+use mathlib.Core.Logic.{⊎-elim}
+use Prim.Native.Nat.{_-_, _≤_, _<_, _^_}
+use native.Mathlib.Omega.{arith}
+use lib.ListN.{length, getD, drop, drop-of-length-le}
+use mir.Syntax.{w32}
+use mir.Val.{hbits}
+use mir.ValLaws.{toZ-pos}
+use Rattle.integer.specs.Signed.{pos-fits, minus-fits, minus-read}
+use Rattle.record.specs.declared.Content.the-variants.{Number}
+use Rattle.record.specs.Spelling.{digitFrom, signed, digits}
+use Rattle.record.specs.Layout.{width}
+use Rattle.record.proofs.Small.{below, pow-more}
+use Rattle.record.proofs.Steps.{is-digit, too-low, too-high, digits-more, digits-bad}
+use Rattle.record.proofs.read_digits.Statement.{statement}
+use Rattle.record.proofs.read_digits.Tie as tie
+
+abbrev Inv-loop : tie.InvT-loop
+Inv-loop part from neg first n₀ i₀ n i = (i ≤ length part) × ((digits neg first (drop from part) ≡ digits neg n (drop i part)) × (n < 10 ^ i))
+
+abbrev μ-loop : tie.MeasureT-loop
+μ-loop part from neg first n₀ i₀ n i = length part - i
+
+small : (c : tie.At-loop Inv-loop μ-loop) → c .loop .n < 10 ^ width
+small c = below (c .loop .i) width (omega arith) (c .loop .inv .1 .1)
+
+loop-holds : tie.Need-loop-holds Inv-loop μ-loop
+loop-holds c = (c .pre .0, (refl, c .pre .1 .1))
+
+shared-slice-read-b : tie.Need-shared-slice-read-b Inv-loop μ-loop
+shared-slice-read-b c = omega arith
+
+mul-n : tie.Need-mul-n Inv-loop μ-loop
+mul-n c = omega (arith, small (c .before .before .before .before))
+
+cast-n : tie.Need-cast-n Inv-loop μ-loop
+cast-n c = omega arith
+
+add-n : tie.Need-add-n Inv-loop μ-loop
+add-n c = omega (arith, small (c .before .before .before .before))
+
+add-i : tie.Need-add-i Inv-loop μ-loop
+add-i c = omega arith
+
+loop-less : tie.Need-loop-less Inv-loop μ-loop
+loop-less c = omega arith
+
+loop-again : tie.Need-loop-again Inv-loop μ-loop
+loop-again c =
+    let l = c .before .before .before .before .loop in
+    let d = is-digit 0 _ (c .before .if1 .left) (c .if2 .left) in
+    (omega arith, (l .inv .1 .0 ∙ digits-more _ _ _ (l .i) (omega arith) d, omega (arith, pow-more (l .i), l .inv .1 .1)))
+
+-- before the last byte the loop is left only at a byte that is no digit
+no-digit : (c : tie.Then3 Inv-loop μ-loop) → digitFrom 0 (getD (c .before .before .before .args .part .now) (c .before .before .loop .i) 0) ≡ false
+no-digit c =
+    ⊎-elim
+    (λ w. absurd (omega (arith, w .left)))
+    (⊎-elim (λ w. too-low 0 _ (w .2 .taken)) (λ w. too-high 0 _ (w .3 .taken)))
+    (c .before .loop-test .came)
+
+returns : tie.Need-returns Inv-loop μ-loop
+returns c =
+    let l = c .before .before .loop in
+    sym (l .inv .1 .0 ∙ digits-bad _ _ _ (l .i) (omega arith) (no-digit c))
+
+-- past the last byte: the number fits, and it is what the whole says
+fits : (c : tie.Else3 Inv-loop μ-loop) → c .before .before .loop .n < 2 ^ hbits w32
+fits c = omega (arith, small (c .before .before))
+
+ended : (c : tie.Else3 Inv-loop μ-loop) {s : Bool} → let a = c .before .before .before .args in
+    a .neg ≡ s → digits (a .neg) (a .first) (drop (a .from) (a .part .now)) ≡ Number (signed s (c .before .before .loop .n))
+unfolding digits
+ended c e =
+    let l = c .before .before .loop in
+    l .inv .1 .0 ∙ ap (digits _ (l .n)) (drop-of-length-le _ {i = l .i} (omega arith)) ∙ ap (λ s. Number (signed s (l .n))) e
+
+cast-x : tie.Need-cast-x Inv-loop μ-loop
+cast-x c = pos-fits w32 _ (fits c)
+
+sub-y : tie.Need-sub-y Inv-loop μ-loop
+sub-y c = minus-fits w32 _ (fits (c .before))
+
+returns-2 : tie.Need-returns-2 Inv-loop μ-loop
+returns-2 c = ap Number (minus-read w32 _ (fits (c .before))) ∙ sym (ended (c .before) (c .if4 .taken))
+
+returns-3 : tie.Need-returns-3 Inv-loop μ-loop
+returns-3 c = ap Number (toZ-pos w32 _ (fits (c .before))) ∙ sym (ended (c .before) (c .if4 .left))
+
+pub read-digits-spec : {M : Type 1} → statement M
+read-digits-spec =
+    tie.close
+    (tie.spec
+    Inv-loop
+    μ-loop
+    loop-holds
+    shared-slice-read-b
+    mul-n
+    cast-n
+    add-n
+    add-i
+    loop-less
+    loop-again
+    returns
+    cast-x
+    sub-y
+    returns-2
+    returns-3)

@@ -1,0 +1,3 @@
+pub mod Spelling
+pub mod Spell
+pub mod Layout

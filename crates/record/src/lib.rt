@@ -1,0 +1,133 @@
+// A record of a case file: a kind letter, eight fields of seven bytes and a line feed.
+ghost use mathlib.Core.Path.{_≡_};
+ghost use Prim.Native.Nat.{ℕ, _+_, _≤_, _<_, _^_};
+ghost use lib.IntN.{pos};
+ghost use lib.ListN.{length, drop, getD};
+ghost use Rattle.record.specs.Spelling.{contentOf, leading, digits};
+ghost use Rattle.record.specs.Layout.{width, recordLength, recordOf};
+
+// What a field says.
+pub enum Content {
+    Blank,
+    Number(i32),
+    Bad,
+}
+
+// A field of a record. (An array of enums can be no field of a struct, so a field is a struct that holds one.)
+pub struct Field {
+    pub content: Content,
+}
+
+// The fields of a record, in order.
+pub struct Record {
+    pub fields: [Field; Record::FIELDS],
+}
+
+impl Record {
+    // The bytes of a field.
+    pub const WIDTH: usize = 7;
+
+    // The fields of a record.
+    pub const FIELDS: usize = 8;
+
+    // The bytes of a record: the letter, the fields, the line feed.
+    pub const LENGTH: usize = 1 + Record::FIELDS * Record::WIDTH + 1;
+
+    // Reads the fields of a whole record.
+    pub fn read(bytes: &[u8]) -> Record
+        requires { ⌜ length (now bytes) ≡ recordLength ⌝ }
+        ensures { λ r. ⌜ r ≡ recordOf (now (bytes .entry)) ⌝ }
+    {
+        let blank = Field {
+            content: Content::Blank,
+        };
+        let mut fields = [blank; Record::FIELDS];
+        let mut k: usize = 0;
+        while k < Record::FIELDS {
+            let a = 1 + k * Record::WIDTH;
+            let e = a + Record::WIDTH;
+            let content = read_field(&bytes[a..e]);
+            let field = Field { content: content };
+            fields[k] = field;
+            k = k + 1;
+        }
+        Record { fields: fields }
+    }
+}
+
+// Reads one field: passes the spaces, then a minus or a 0.
+fn read_field(part: &[u8]) -> Content
+    requires { ⌜ length (now part) ≡ width ⌝ }
+    ensures { λ r. ⌜ r ≡ contentOf (now (part .entry)) ⌝ }
+{
+    let mut i = 0;
+    while i < part.len() {
+        if part[i] != b' ' {
+            break;
+        }
+        i += 1;
+    }
+    if i == part.len() {
+        return Content::Blank;
+    }
+    let b = part[i];
+    if b == b'-' {
+        let j = i + 1;
+        if j == part.len() {
+            return Content::Bad;
+        }
+        return read_number(part, j, true);
+    }
+    if b == b'0' {
+        if i + 1 == part.len() {
+            return Content::Number(0);
+        }
+        return Content::Bad;
+    }
+    read_number(part, i, false)
+}
+
+// Reads a number other than 0 whose first digit is byte i, with a minus before it or not.
+fn read_number(part: &[u8], i: usize, neg: bool) -> Content
+    requires { ⌜ (i < length (now part)) × (length (now part) ≡ width) ⌝ }
+    ensures { λ r. ⌜ r ≡ leading neg (getD (now (part .entry)) i 0) (drop (i + 1) (now (part .entry))) ⌝ }
+{
+    let b = part[i];
+    if b < b'1' {
+        return Content::Bad;
+    }
+    if b'9' < b {
+        return Content::Bad;
+    }
+    read_digits(part, i + 1, neg, (b - b'0') as u32)
+}
+
+// Reads the digits from byte `from` on, after those of `first`.
+fn read_digits(part: &[u8], from: usize, neg: bool, first: u32) -> Content
+    requires { ⌜ (from ≤ length (now part)) × ((length (now part) ≡ width) × (first < 10 ^ from)) ⌝ }
+    ensures { λ r. ⌜ r ≡ digits neg first (drop from (now (part .entry))) ⌝ }
+{
+    let mut n = first;
+    let mut i = from;
+    while i < part.len() {
+        let b = part[i];
+        if b < b'0' {
+            break;
+        }
+        if b'9' < b {
+            break;
+        }
+        n = 10 * n + (b - b'0') as u32;
+        i += 1;
+    }
+    if i < part.len() {
+        return Content::Bad;
+    }
+    let x = n as i32;
+    if neg {
+        let y = 0 - x;
+        Content::Number(y)
+    } else {
+        Content::Number(x)
+    }
+}

@@ -1,0 +1,293 @@
+-- Taking answers the first refusal that applies, in document 01's order, and there is one first. Assumes nothing.
+use mathlib.Core.Path.{_≡_, refl, _∙_, sym, ap, subst, subst₂}
+use mathlib.Core.Logic.{_⊎_, inl, inr, ⊎-elim}
+use mathlib.Core.List.{List}
+use mathlib.Core.Bool.{Bool, true, cond, false≢true}
+use Prim.Native.Nat.{ℕ, zero, suc, _-_, _≤_, _<_}
+use native.Mathlib.Nat.{le-refl}
+use native.Mathlib.Omega.{arith}
+use lib.Dec.{eqb, leb, ltb, lit≤, eqb·suc-zero}
+use lib.ListN.{length, getD}
+use borrow.Author.Tests.{ltb-true, lt-ltb, eqb-true, eqb-false}
+use Rattle.integer.specs.Tests.{Tells, cond-by, tells-lt, tells-le, tells-and, tells-or}
+use Rattle.record.specs.Layout.{recordLength, recordOf}
+use Rattle.kinds.specs.declared.Kind.{Kind}
+use Rattle.kinds.specs.declared.Kind.the-variants.{State, Guard, Move, Sentence, Place}
+use Rattle.kinds.specs.declared.Letter.{Letter}
+use Rattle.kinds.specs.declared.Letter.the-variants.{Names, Unknown}
+use Rattle.kinds.specs.declared.Shape.{Shape}
+use Rattle.kinds.specs.Kinds.{rankOf, kindOf, countOf}
+use Rattle.kinds.specs.Table.{shapeOf, ruleAt, natural, isNumber, isBlank}
+use Rattle.faults.specs.declared.Fault.the-variants as fault
+use Rattle.faults.specs.declared.Answer.{Answer}
+use Rattle.faults.specs.declared.Answer.the-variants.{Taken, NotARecord, NoLineFeed, NoSuchKind, Misspelled, Misfilled, OutOfRange, OutOfOrder, NoRoom, NotThere, Misplaced, WrongWayIn}
+use Rattle.faults.specs.declared.Look.{Look}
+use Rattle.faults.specs.Answers.{numberOf, fieldOf}
+use Rattle.faults.specs.Look.{lineFeed, wrongForm, rangeAnswer, extraAnswer, missingAnswer, formAnswer, fieldsAnswer, unread, readAs, endedLook, lookOf}
+use Rattle.plan.specs.declared.Loops.{Loops}
+use Rattle.plan.specs.declared.Case.{Case}
+use Rattle.plan.specs.Cases.{Items, listOf, itemsOf, roomOf, noLoops}
+use Rattle.plan.specs.Taking.{isClosed, isOpen, isLong, wayAnswer, markAnswer, placeAnswer, layoutAnswer, thereAnswer, roomAnswer, lastRank, orderAnswer, isTaken, answerOf, takenBy, takenOf}
+use Rattle.rules.specs.Rules.{IsA, contentAt, IsMissing, IsExtra, IsOutside, IsNotThere, HasForm, Lowest, countsOf, Closed, Open, Applies, IsFirst}
+use Rattle.rules.specs.Sound.{Sound, loopsFrom}
+use Rattle.rules.specs.Held.{counts-are}
+use Rattle.rules.specs.Loops.{closed-is, open-is}
+use Rattle.rules.specs.Letters.{Reads, reads, one-kind, unnamed}
+use Rattle.rules.specs.Stages.{Nowhere, no-lowest, numbered, known, Passed, Ends, renumbered, start, more, first, refuses, tested, fault-tested}
+
+-- a record's shape, if it is of kind k
+abbrev shaped : Kind → List ℕ → Shape
+shaped k bs = shapeOf k (recordOf bs)
+
+-- ---- what the tests tell
+
+form-outside : (bs : List ℕ) (k : Kind) → wrongForm (shapeOf k (recordOf bs)) (recordOf bs) ≡ true → IsOutside k bs 1
+unfolding shapeOf ruleAt
+form-outside bs State e = absurd (false≢true e)
+form-outside bs Guard e = absurd (false≢true e)
+form-outside bs Move e = absurd (false≢true e)
+form-outside bs Sentence e = e
+form-outside bs Place e = absurd (false≢true e)
+
+tells-way : (n : ℕ) (t u : Bool) → Tells (cond (eqb n 0) t u) (((n ≡ 0) × (t ≡ true)) ⊎ ((0 < n) × (u ≡ true)))
+tells-way zero t u = (λ e. inl (refl, e), ⊎-elim (λ h. h .1) (λ h. absurd (omega (arith, h .0))))
+tells-way (suc n) t u = rw (eqb·suc-zero n) (λ e. inr (omega arith, e), ⊎-elim (λ h. absurd (omega (arith, h .0))) (λ h. h .1))
+
+module _ (x : Items) where
+  count-length : (k : Kind) → countOf (countsOf x) k ≡ length (listOf k x)
+  count-length State = refl
+  count-length Guard = refl
+  count-length Move = refl
+  count-length Sentence = refl
+  count-length Place = refl
+
+  -- items of a kind with a rank above m are held
+  abbrev Above : ℕ → Type 0
+  Above m = (j : Kind) × (m < rankOf j) × (0 < length (listOf j x))
+
+  last-held : (m : ℕ) → m < lastRank (countsOf x) → Above m
+  last-held m =
+      rank-or Place _ (rank-or Sentence _ (rank-or Move _ (rank-or Guard 0 (λ h. absurd (omega arith)))))
+    where
+      rank-or : (j : Kind) (n : ℕ) → (m < n → Above m) → m < cond (ltb 0 (length (listOf j x))) (rankOf j) n → Above m
+      rank-or j n f = cond-by (λ r. m < r → Above m) (ltb 0 (length (listOf j x))) {x = rankOf j} {y = n} (λ e h. (j, h, ltb-true 0 _ e)) (λ e. f)
+
+  held-here : (j : Kind) (n : ℕ) → 0 < length (listOf j x) → rankOf j ≤ cond (ltb 0 (length (listOf j x))) (rankOf j) n
+  held-here j n h = rw (lt-ltb 0 (length (listOf j x)) h) (le-refl (rankOf j))
+
+  held-below : (m : ℕ) (j : Kind) (n : ℕ) → m ≤ rankOf j → m ≤ n → m ≤ cond (ltb 0 (length (listOf j x))) (rankOf j) n
+  held-below m j n g h = cond-by (λ r. m ≤ r) (ltb 0 (length (listOf j x))) {x = rankOf j} {y = n} (λ e. g) (λ e. h)
+
+  held-last : (j : Kind) → 0 < length (listOf j x) → rankOf j ≤ lastRank (countsOf x)
+  held-last State h = omega arith
+  held-last Guard h =
+      held-below 1 Place _ (lit≤ tt) (held-below 1 Sentence _ (lit≤ tt) (held-below 1 Move _ (lit≤ tt) (held-here Guard 0 h)))
+  held-last Move h = held-below 2 Place _ (lit≤ tt) (held-below 2 Sentence _ (lit≤ tt) (held-here Move _ h))
+  held-last Sentence h = held-below 3 Place _ (lit≤ tt) (held-here Sentence _ h)
+  held-last Place h = held-here Place _ h
+
+  tells-order : (m : ℕ) → Tells (ltb m (lastRank (countsOf x))) (Above m)
+  tells-order m =
+      (λ e. last-held m (ltb-true m _ e), λ h. lt-ltb m _ (omega (arith, h .1, held-last (h .0) (h .2))))
+
+  tells-room : (k : Kind) → Tells (leb (roomOf k) (countOf (countsOf x) k)) (roomOf k ≤ length (listOf k x))
+  tells-room k = rw (count-length k) (tells-le (roomOf k) (length (listOf k x)))
+
+-- ---- the results that come from the input, 14 to 16, of a record of kind k
+
+-- what is true of its kind is true of k
+of-kind : (bs : List ℕ) (k : Kind) → IsA k bs → (P : Kind → Type 0) (j : Kind) → IsA j bs → P j → P k
+of-kind bs k is P j a = subst P (one-kind (getD bs 0 0) j k a is)
+
+-- field f is the lowest that is needed and blank, or else the lowest that is filled and must be blank
+abbrev WrongFill : List ℕ → Kind → ℕ → Type 0
+WrongFill bs j f = Lowest (IsMissing j bs) f ⊎ (Nowhere (IsMissing j bs) × Lowest (IsExtra j bs) f)
+
+module _ (x : Items) (bs : List ℕ) (k : Kind) (is : IsA k bs) where
+  range-ends : Passed x bs 16 → Ends x bs 21 (rangeAnswer (shaped k bs) (recordOf bs))
+  unfolding rangeAnswer
+  range-ends p =
+      fault-tested x bs 21 fault.OutOfRange (shaped k bs) OutOfRange
+      (λ g l. first x bs (OutOfRange g) p (k, is, l))
+      (λ none.
+      let past : Passed x bs 17 =
+      more x bs 16 (λ f h. no-lowest none (of-kind bs k is (λ j. Lowest (IsOutside j bs) f) (h .0) (h .1) (h .2))) p in
+      inl (refl, more x bs 20 (λ f h. h) (more x bs 19 (λ f h. h) (more x bs 18 (λ f h. h) (more x bs 17 (λ f h. h) past)))))
+
+  extra-ends : HasForm k bs → Nowhere (IsMissing k bs) → Passed x bs 15 → Ends x bs 21 (extraAnswer (shaped k bs) (recordOf bs))
+  unfolding extraAnswer
+  extra-ends form full p =
+      fault-tested x bs 21 fault.Extra (shaped k bs) Misfilled
+      (λ g l. first x bs (Misfilled g) p (k, is, form, inr (full, l)))
+      (λ none. range-ends (more x bs 15 (λ f h.
+      ⊎-elim (no-lowest full) (λ l. no-lowest none (l .1)) (of-kind bs k is (λ j. WrongFill bs j f) (h .0) (h .1) (h .3))) p))
+
+  missing-ends : HasForm k bs → Passed x bs 15 → Ends x bs 21 (missingAnswer (shaped k bs) (recordOf bs))
+  unfolding missingAnswer
+  missing-ends form p =
+      fault-tested x bs 21 fault.Missing (shaped k bs) Misfilled
+      (λ g l. first x bs (Misfilled g) p (k, is, form, inl l))
+      (λ full. extra-ends form full p)
+
+  form-ends : Passed x bs 15 → Ends x bs 21 (formAnswer (shaped k bs) (recordOf bs))
+  unfolding formAnswer
+  form-ends p =
+      cond-by (Ends x bs 21) (wrongForm (shaped k bs) (recordOf bs)) {x = OutOfRange 1} {y = missingAnswer (shaped k bs) (recordOf bs)}
+      (λ e. inr (first x bs (OutOfRange 1)
+      (more x bs 15 (λ f h. false≢true (sym (of-kind bs k is (λ j. HasForm j bs) (h .0) (h .1) (h .2)) ∙ e)) p)
+      (k, is, record { counted = lit≤ tt; holds = form-outside bs k e; before = λ g l m w. omega arith })))
+      (λ e. missing-ends e p)
+
+  fields-end : Passed x bs 14 → Ends x bs 21 (fieldsAnswer (shaped k bs) (recordOf bs))
+  unfolding fieldsAnswer
+  fields-end p =
+      fault-tested x bs 21 fault.Misspelled (shaped k bs) Misspelled
+      (λ g l. first x bs (Misspelled g) p l)
+      (λ none. form-ends (more x bs 14 (λ f l. no-lowest none l) p))
+
+-- ---- the results that come from the state
+
+module _ (x : Items) (bs : List ℕ) (l : Loops)
+    (closed : Tells (isClosed l (length (x .places))) (Closed x))
+    (opened : Tells (isOpen l (length (x .places))) (Open x)) where
+  way-ends : IsA Place bs → Passed x bs 26 → Ends x bs 27 (wayAnswer (length (x .places)) (recordOf bs .fields))
+  unfolding wayAnswer
+  way-ends is p =
+      tested x bs 27 _ WrongWayIn (tells-way (length (x .places)) (isNumber (contentAt bs 2)) (isBlank (contentAt bs 2)))
+      (λ w. first x bs WrongWayIn p (is, w))
+      (λ right. inl (refl, more x bs 26 (λ f h. right (h .1)) p))
+
+  mark-ends : IsA Place bs → (Closed x → ⊥) → Passed x bs 25 → Ends x bs 27 (markAnswer l (length (x .places)) (recordOf bs .fields))
+  unfolding markAnswer
+  mark-ends is still p =
+      let t : Bool = isLong (length (x .places)) (natural (contentAt bs 4)) in
+      tested x bs 27 _ (Misplaced 4)
+      (tells-and (isNumber (contentAt bs 4)) _ (λ e. e, λ e. e) (tells-or (isOpen l (length (x .places))) t opened (tells-lt _ _)))
+      (λ w. first x bs (Misplaced 4) p (is, inr (still, w, refl)))
+      (λ right. way-ends is (more x bs 25 (λ f h. ⊎-elim (λ c. still (c .0)) (λ m. right (m .1)) (h .1)) p))
+
+  place-ends : IsA Place bs → Passed x bs 25 → Ends x bs 27 (placeAnswer l (length (x .places)) (recordOf bs .fields))
+  unfolding placeAnswer
+  place-ends is p =
+      tested x bs 27 _ (Misplaced 0) closed
+      (λ c. first x bs (Misplaced 0) p (is, inl (c, refl)))
+      (λ still. mark-ends is still p)
+
+  no-place : (IsA Place bs → ⊥) → Passed x bs 25 → Ends x bs 27 Taken
+  no-place other p = inl (refl, more x bs 26 (λ f h. other (h .0)) (more x bs 25 (λ f h. other (h .0)) p))
+
+  layout-ends : (k : Kind) → IsA k bs → Passed x bs 25 → Ends x bs 27 (layoutAnswer k (countsOf x) l (recordOf bs .fields))
+  layout-ends State is p = no-place (λ h. omega arith) p
+  layout-ends Guard is p = no-place (λ h. omega arith) p
+  layout-ends Move is p = no-place (λ h. omega arith) p
+  layout-ends Sentence is p = no-place (λ h. omega arith) p
+  layout-ends Place is p = place-ends is p
+
+  module _ (k : Kind) (is : IsA k bs) where
+    there-ends : Passed x bs 23 → Ends x bs 27 (thereAnswer (countsOf x) l (shaped k bs) (recordOf bs))
+    unfolding thereAnswer shapeOf
+    there-ends p =
+        fault-tested x bs 27 (fault.NotThere (countsOf x)) (shaped k bs) NotThere
+        (λ g w. first x bs (NotThere g) p (k, is, w))
+        (λ none.
+        let past : Passed x bs 24 =
+        more x bs 23 (λ f h. no-lowest none (of-kind bs k is (λ j. Lowest (IsNotThere x j bs) f) (h .0) (h .1) (h .2))) p in
+        layout-ends k is (more x bs 24 (λ f h. h) past))
+
+    room-ends : Passed x bs 22 → Ends x bs 27 (roomAnswer (countsOf x) l (shaped k bs) (recordOf bs))
+    unfolding roomAnswer shapeOf
+    room-ends p =
+        tested x bs 27 _ NoRoom (tells-room x k)
+        (λ w. first x bs NoRoom p (k, is, w))
+        (λ room. there-ends (more x bs 22 (λ f h. room (of-kind bs k is (λ j. roomOf j ≤ length (listOf j x)) (h .0) (h .1) (h .2))) p))
+
+    order-ends : Passed x bs 21 → Ends x bs 27 (orderAnswer (countsOf x) l (shaped k bs) (recordOf bs))
+    unfolding orderAnswer shapeOf
+    order-ends p =
+        tested x bs 27 _ OutOfOrder (tells-order x (rankOf k))
+        (λ w. first x bs OutOfOrder p (k, is, w))
+        (λ right. room-ends (more x bs 21 (λ f h. right (of-kind bs k is (λ j. Above x (rankOf j)) (h .0) (h .1) (h .2))) p))
+
+  -- ---- the whole
+
+  -- the answer to a record, by what its bytes say
+  abbrev Answered : Look → Type 0
+  Answered k = Ends x bs 27 (answerOf (countsOf x) l k)
+
+  refused-ends : (k : Look) → IsFirst x bs (k .answer) → Answered k
+  unfolding answerOf
+  refused-ends k h = rw (refuses x bs (k .answer) (h .applies)) (inr h)
+
+  kind-ends : (k : Kind) → IsA k bs → Passed x bs 14 → Answered (readAs (Names k) bs)
+  unfolding answerOf
+  kind-ends k is p =
+      ⊎-elim (λ t. rw (t .0) (order-ends k is (t .1))) (refused-ends (readAs (Names k) bs)) (fields-end x bs k is p)
+
+  letter-ends : (m : Letter) → kindOf (getD bs 0 0) ≡ m → Reads (getD bs 0 0) m → Passed x bs 13 → Answered (readAs m bs)
+  letter-ends (Names k) e is p = kind-ends k is (more x bs 13 (λ f h. h k is) p)
+  letter-ends Unknown e is p = refused-ends (unread NoSuchKind) (first x bs NoSuchKind p (unnamed (getD bs 0 0) e))
+
+  ended-ends : Passed x bs 12 → Answered (endedLook bs)
+  unfolding endedLook
+  ended-ends p =
+      cond-by Answered (eqb (getD bs (recordLength - 1) 0) lineFeed) {x = readAs (kindOf (getD bs 0 0)) bs} {y = unread NoLineFeed}
+      (λ e. letter-ends (kindOf (getD bs 0 0)) refl (reads (getD bs 0 0)) (more x bs 12 (λ f h. h (eqb-true _ lineFeed e)) p))
+      (λ e. refused-ends (unread NoLineFeed) (first x bs NoLineFeed p (eqb-false _ lineFeed e)))
+
+  look-ends : Answered (lookOf bs)
+  unfolding lookOf
+  look-ends =
+      cond-by Answered (eqb (length bs) recordLength) {x = endedLook bs} {y = unread NotARecord}
+      (λ e. ended-ends (more x bs 11 (λ f h. h (eqb-true _ recordLength e)) (start x bs)))
+      (λ e. refused-ends (unread NotARecord) (first x bs NotARecord (start x bs) (eqb-false _ recordLength e)))
+
+-- no refusal applies and the record is taken, or it gets the first that applies
+pub answers-first : (c : Case) (bs : List ℕ) → Sound c →
+    ((isTaken (takenOf c bs .answer) ≡ true) × ((a : Answer) → Applies (itemsOf c) bs a → ⊥)) ⊎ IsFirst (itemsOf c) bs (takenOf c bs .answer)
+unfolding takenOf takenBy
+answers-first c bs s =
+    let x : Items = itemsOf c in
+    let w : Ends x bs 27 (answerOf (c .count) (c .loops) (lookOf bs)) =
+    subst₂ (λ n l. Ends x bs 27 (answerOf n l (lookOf bs))) (sym (counts-are c s)) (sym (s .derived))
+    (look-ends x bs (loopsFrom noLoops 0 (x .places)) (closed-is x (s .loops)) (open-is x (s .loops))) in
+    ⊎-elim (λ t. inl (t .0, λ a. t .1 a (known a .below))) (λ h. inr h) w
+
+-- ---- there is one first
+
+neither-less : (m n : ℕ) → (m < n → ⊥) → (n < m → ⊥) → m ≡ n
+neither-less m n p q = omega arith
+
+lowest-one : (P : ℕ → Type 0) (f g : ℕ) → Lowest P f → Lowest P g → f ≡ g
+lowest-one P f g v w =
+    neither-less f g (λ h. w .before f (v .counted) h (v .holds)) (λ h. v .before g (w .counted) h (w .holds))
+
+both-ways : {A B C D E : Type 0} → (A → C → E) → (A → D → E) → (B → C → E) → (B → D → E) → A ⊎ B → C ⊎ D → E
+both-ways f g h k v w = ⊎-elim (λ a. ⊎-elim (f a) (g a) w) (λ b. ⊎-elim (h b) (k b) w) v
+
+-- two answers with one number that both apply have one field
+field-one : (x : Items) (bs : List ℕ) (a : Answer) (g : ℕ) → Applies x bs a → Applies x bs (numbered (numberOf a) g) → a ≡ numbered (numberOf a) g
+field-one x bs Taken g v w = refl
+field-one x bs NotARecord g v w = refl
+field-one x bs NoLineFeed g v w = refl
+field-one x bs NoSuchKind g v w = refl
+field-one x bs (Misspelled f) g v w = ap Misspelled (lowest-one _ f g v w)
+field-one x bs (Misfilled f) g v w =
+    ap Misfilled (both-ways (lowest-one _ f g) (λ l m. absurd (no-lowest (m .0) l)) (λ l m. absurd (no-lowest (l .0) m)) (λ l m. lowest-one _ f g (l .1) (m .1))
+    (v .3) (of-kind bs (v .0) (v .1) (λ j. WrongFill bs j g) (w .0) (w .1) (w .3)))
+field-one x bs (OutOfRange f) g v w =
+    ap OutOfRange (lowest-one _ f g (v .2) (of-kind bs (v .0) (v .1) (λ j. Lowest (IsOutside j bs) g) (w .0) (w .1) (w .2)))
+field-one x bs OutOfOrder g v w = refl
+field-one x bs NoRoom g v w = refl
+field-one x bs (NotThere f) g v w =
+    ap NotThere (lowest-one _ f g (v .2) (of-kind bs (v .0) (v .1) (λ j. Lowest (IsNotThere x j bs) g) (w .0) (w .1) (w .2)))
+field-one x bs (Misplaced f) g v w =
+    ap Misplaced (both-ways (λ c d. c .1 ∙ sym (d .1)) (λ c d. absurd (d .0 (c .0))) (λ c d. absurd (c .0 (d .0))) (λ c d. c .2 ∙ sym (d .2)) (v .1) (w .1))
+field-one x bs WrongWayIn g v w = refl
+
+pub first-one : (x : Items) (bs : List ℕ) (a b : Answer) → IsFirst x bs a → IsFirst x bs b → a ≡ b
+first-one x bs a b v w =
+    let e : numberOf a ≡ numberOf b =
+    neither-less (numberOf a) (numberOf b) (λ h. w .earlier a h (v .applies)) (λ h. v .earlier b h (w .applies)) in
+    field-one x bs a (fieldOf b) (v .applies) (renumbered x bs b (numberOf a) (sym e) (w .applies))
+    ∙ ap (λ n. numbered n (fieldOf b)) e
+    ∙ known b .made

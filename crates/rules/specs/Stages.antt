@@ -1,0 +1,182 @@
+-- How an answer is shown to be the first that applies: its refusals are passed one number after another, each by its test. Assumes nothing.
+use mathlib.Core.Path.{_≡_, refl, _∙_, sym, ap, subst}
+use mathlib.Core.Logic.{_↔_, _⊎_, inl, inr, ⊎-elim}
+use mathlib.Core.List.{List}
+use mathlib.Core.Bool.{Bool, true, false, cond, _&&_, _||_, true≢false, false≢true}
+use Prim.Native.Nat.{ℕ, zero, suc, _+_, _-_, _≤_, _<_}
+use native.Mathlib.Nat.{eq-or-lt-of-le, le-of-suc-le-suc}
+use native.Mathlib.Omega.{arith}
+use lib.Dec.{eqb, leb, ltb, lit<, lit≤}
+use lib.ListN.{length, List·getD-eq-default}
+use borrow.Author.Tests.{ltb-true, ltb-false, lt-ltb, leb-true, le-leb, eqb-true, ne-eqb}
+use Rattle.integer.specs.Lowest.{lowest, lowest-le, lowest-holds, lowest-before, lowest-none}
+use Rattle.integer.specs.Tab.{length-tab}
+use Rattle.integer.specs.Tests.{cond-by, Tells, tells-not}
+use Rattle.record.specs.declared.Content.the-variants as content
+use Rattle.record.specs.declared.Field.{Field}
+use Rattle.record.specs.Layout.{fields, fieldAt, recordOf, at}
+use Rattle.kinds.specs.declared.Kind.{Kind}
+use Rattle.kinds.specs.declared.Kind.the-variants.{State, Guard, Move, Sentence, Place}
+use Rattle.kinds.specs.declared.Letter.{Letter}
+use Rattle.kinds.specs.declared.Letter.the-variants.{Names, Unknown}
+use Rattle.kinds.specs.declared.Rule.{Rule}
+use Rattle.kinds.specs.declared.Rule.the-variants as rule
+use Rattle.kinds.specs.declared.Shape.{Shape}
+use Rattle.kinds.specs.Kinds.{letterOf, kindOf}
+use Rattle.kinds.specs.Table.{rowOf, ruleAt, counters, inFilled}
+use Rattle.faults.specs.declared.Fault.{Fault}
+use Rattle.faults.specs.declared.Fault.the-variants as fault
+use Rattle.faults.specs.declared.Answer.{Answer}
+use Rattle.faults.specs.declared.Answer.the-variants.{Taken, NotARecord, NoLineFeed, NoSuchKind, Misspelled, Misfilled, OutOfRange, OutOfOrder, NoRoom, NotThere, Misplaced, WrongWayIn}
+use Rattle.faults.specs.Answers.{numberOf, fieldOf}
+use Rattle.faults.specs.Faults.{hasFault, faultAt, lowestFault}
+use Rattle.faults.specs.Look.{orElse}
+use Rattle.plan.specs.Cases.{Items}
+use Rattle.plan.specs.Taking.{isTaken}
+use Rattle.rules.specs.Rules.{Lowest, Applies, IsFirst}
+
+-- ---- the lowest field
+
+-- P is true of no field, counted from 1
+abbrev pub Nowhere : (ℕ → Type 0) → Type 0
+Nowhere P = (g : ℕ) → 0 < g → P g → ⊥
+
+pub no-lowest : {P : ℕ → Type 0} {f : ℕ} → Nowhere P → Lowest P f → ⊥
+no-lowest {P} {f} none l = none f (l .counted) (l .holds)
+
+module _ (t : ℕ → Bool) where
+  lowest-first : lowest fields 0 t < fields → Lowest (λ g. t (g - 1) ≡ true) (lowest fields 0 t + 1)
+  lowest-first h =
+      let e : lowest fields 0 t ≡ lowest fields 0 t + 1 - 1 = omega arith in
+      record {
+        counted = omega arith;
+        holds = subst (λ k. t k ≡ true) e (lowest-holds t fields h);
+        before = λ g p l w. true≢false (sym w ∙ lowest-before t fields (g - 1) (omega arith));
+      }
+
+  lowest-nowhere : ((k : ℕ) → fields ≤ k → t k ≡ false) → fields ≤ lowest fields 0 t → Nowhere (λ g. t (g - 1) ≡ true)
+  lowest-nowhere past h g p w =
+      let e : lowest fields 0 t ≡ fields = omega (arith, lowest-le t fields) in
+      let f : t (g - 1) ≡ false = cond-by (λ (z : ℕ). t (g - 1) ≡ false) (ltb (g - 1) fields) {x = 0} {y = 0}
+      (λ l. lowest-none t fields e (g - 1) (ltb-true (g - 1) fields l))
+      (λ l. past (g - 1) (ltb-false (g - 1) fields l)) in
+      true≢false (sym w ∙ f)
+
+-- past the last field there is no fault: what it says is blank, and so is its rule
+row-short : (k : Kind) (f : ℕ) (x : ℕ → Bool) → length (rowOf counters k f x) ≤ fields
+row-short State f x = lit≤ tt
+row-short Guard f x = lit≤ tt
+row-short Move f x = lit≤ tt
+row-short Sentence zero x = lit≤ tt
+row-short Sentence (suc zero) x = lit≤ tt
+row-short Sentence (suc (suc zero)) x = lit≤ tt
+row-short Sentence (suc (suc (suc zero))) x = lit≤ tt
+row-short Sentence (suc (suc (suc (suc zero)))) x = lit≤ tt
+row-short Sentence (suc (suc (suc (suc (suc zero))))) x = lit≤ tt
+row-short Sentence (suc (suc (suc (suc (suc (suc zero)))))) x = lit≤ tt
+row-short Sentence (suc (suc (suc (suc (suc (suc (suc f))))))) x = lit≤ tt
+row-short Place f x = lit≤ tt
+
+blank-fault : (f : Fault) → hasFault f rule.Blank content.Blank ≡ false
+blank-fault fault.Misspelled = refl
+blank-fault fault.Missing = refl
+blank-fault fault.Extra = refl
+blank-fault fault.OutOfRange = refl
+blank-fault (fault.NotThere n) = refl
+blank-fault fault.Any = refl
+
+past-fault : (f : Fault) (s : Shape) (bs : List ℕ) (k : ℕ) → fields ≤ k → faultAt f s (recordOf bs) k ≡ false
+unfolding ruleAt recordOf
+past-fault f s bs k h =
+    let row : List Rule = rowOf counters (s .kind) (s .form) (inFilled (s .filled)) in
+    let blank : Field = record { content = content.Blank } in
+    let m : length row ≤ k = omega (arith, row-short (s .kind) (s .form) (inFilled (s .filled))) in
+    let l : length (recordOf bs .fields) ≤ k = omega (arith, length-tab (fieldAt bs) fields 0) in
+    ap (λ r. hasFault f r (at (recordOf bs .fields) k)) (List·getD-eq-default row rule.Blank m)
+    ∙ ap (λ c. hasFault f rule.Blank (c .content)) (List·getD-eq-default (recordOf bs .fields) blank l)
+    ∙ blank-fault f
+
+-- ---- answers by their numbers
+
+-- the answer with number n and field f; Taken where no refusal has that number
+abbrev pub numbered : ℕ → ℕ → Answer
+numbered n f =
+    cond (ltb n 11) Taken
+    (cond (ltb n 12) NotARecord
+    (cond (ltb n 13) NoLineFeed
+    (cond (ltb n 14) NoSuchKind
+    (cond (ltb n 15) (Misspelled f)
+    (cond (ltb n 16) (Misfilled f)
+    (cond (ltb n 17) (OutOfRange f)
+    (cond (ltb n 21) Taken
+    (cond (ltb n 22) OutOfOrder
+    (cond (ltb n 23) NoRoom
+    (cond (ltb n 24) (NotThere f) (cond (ltb n 25) Taken (cond (ltb n 26) (Misplaced f) WrongWayIn))))))))))))
+
+-- its number is below 27, it is made from its number and field, and it is Taken where its number is 0
+pub record Known (a : Answer) : Type 0 where
+  pub below : numberOf a < 27
+  pub made : numbered (numberOf a) (fieldOf a) ≡ a
+  pub taken : isTaken a ≡ eqb (numberOf a) 0
+
+pub known : (a : Answer) → Known a
+known Taken = record { below = lit< tt; made = refl; taken = refl }
+known NotARecord = record { below = lit< tt; made = refl; taken = refl }
+known NoLineFeed = record { below = lit< tt; made = refl; taken = refl }
+known NoSuchKind = record { below = lit< tt; made = refl; taken = refl }
+known (Misspelled f) = record { below = lit< tt; made = refl; taken = refl }
+known (Misfilled f) = record { below = lit< tt; made = refl; taken = refl }
+known (OutOfRange f) = record { below = lit< tt; made = refl; taken = refl }
+known OutOfOrder = record { below = lit< tt; made = refl; taken = refl }
+known NoRoom = record { below = lit< tt; made = refl; taken = refl }
+known (NotThere f) = record { below = lit< tt; made = refl; taken = refl }
+known (Misplaced f) = record { below = lit< tt; made = refl; taken = refl }
+known WrongWayIn = record { below = lit< tt; made = refl; taken = refl }
+
+-- ---- the first refusal that applies
+
+module _ (x : Items) (bs : List ℕ) where
+  -- no refusal with a number below n applies
+  abbrev pub Passed : ℕ → Type 0
+  Passed n = (a : Answer) → numberOf a < n → Applies x bs a → ⊥
+
+  -- a is where the tests end: no refusal below n applies and it is Taken, or it is the first refusal that applies
+  abbrev pub Ends : ℕ → Answer → Type 0
+  Ends n a = ((isTaken a ≡ true) × Passed n) ⊎ IsFirst x bs a
+
+  pub renumbered : (a : Answer) (n : ℕ) → numberOf a ≡ n → Applies x bs a → Applies x bs (numbered n (fieldOf a))
+  renumbered a n e = subst (Applies x bs) (sym (known a .made) ∙ ap (λ m. numbered m (fieldOf a)) e)
+
+  -- the first number is 11
+  pub start : Passed 11
+  start a h p =
+      let e : numbered (numberOf a) (fieldOf a) ≡ Taken = rw (lt-ltb (numberOf a) 11 h) in
+      subst (Applies x bs) (sym (known a .made) ∙ e) p
+
+  pub more : (n : ℕ) → ((f : ℕ) → Applies x bs (numbered n f) → ⊥) → Passed n → Passed (suc n)
+  more n r p a h w =
+      ⊎-elim (λ e. r (fieldOf a) (renumbered a n e w)) (λ l. p a l w) (eq-or-lt-of-le (le-of-suc-le-suc h))
+
+  pub first : (a : Answer) → Passed (numberOf a) → Applies x bs a → IsFirst x bs a
+  first a p w = record { applies = w; earlier = p }
+
+  -- what applies is no Taken
+  pub refuses : (a : Answer) → Applies x bs a → isTaken a ≡ false
+  refuses a w = known a .taken ∙ ne-eqb (numberOf a) 0 (λ e. renumbered a 0 e w)
+
+  -- a test that tells whether P, by which a is answered
+  pub tested : (n : ℕ) (t : Bool) (a : Answer) {b : Answer} {P : Type 0} → Tells t P → (P → IsFirst x bs a) → ((P → ⊥) → Ends n b) → Ends n (cond t a b)
+  tested n t a {b} w f g = cond-by (Ends n) t {x = a} {y = b} (λ e. inr (f (w .0 e))) (λ e. g (tells-not t w e))
+
+  -- a fault, of which the lowest field is answered
+  pub fault-tested : (n : ℕ) (f : Fault) (s : Shape) (refused : ℕ → Answer) {b : Answer}
+      → ((g : ℕ) → Lowest (λ j. faultAt f s (recordOf bs) (j - 1) ≡ true) g → IsFirst x bs (refused g))
+      → (Nowhere (λ j. faultAt f s (recordOf bs) (j - 1) ≡ true) → Ends n b)
+      → Ends n (orElse (lowestFault f s (recordOf bs)) refused b)
+  unfolding lowestFault
+  fault-tested n f s refused {b} some none =
+      let t : ℕ → Bool = faultAt f s (recordOf bs) in
+      let m : ℕ = lowest fields 0 t in
+      cond-by (Ends n) (ltb m fields) {x = refused (m + 1)} {y = b}
+      (λ e. inr (some (m + 1) (lowest-first t (ltb-true m fields e))))
+      (λ e. none (lowest-nowhere t (past-fault f s bs) (ltb-false m fields e)))

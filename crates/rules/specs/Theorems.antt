@@ -1,0 +1,76 @@
+-- What is proved of taking records: start here. The rules are in Rules.antt, the invariant in Sound.antt, the case that a file spells in
+-- Files.antt; `takenOf` and `runOf`, with which the code's promises are equations, in the crate plan. Assumes nothing.
+use mathlib.Core.Path.{_≡_, refl, _∙_, sym, ap, subst}
+use mathlib.Core.Logic.{_⊎_}
+use mathlib.Core.List.{List, [], _∷_, _++_}
+use mathlib.Core.Bool.{Bool, true, false, cond}
+use Prim.Native.Nat.{ℕ, _+_}
+use Rattle.integer.specs.Tests.{cond-by}
+use Rattle.record.specs.Layout.{recordOf}
+use Rattle.kinds.specs.declared.Kind.{Kind}
+use Rattle.faults.specs.declared.Answer.{Answer}
+use Rattle.items.specs.Items.{itemOf, rowOf}
+use Rattle.plan.specs.declared.Case.{Case}
+use Rattle.plan.specs.declared.Run.{Run}
+use Rattle.plan.specs.Cases.{emptyCase, itemsOf, listOf}
+use Rattle.plan.specs.Taking.{isTaken, takenOf, runFrom, runOf, cut}
+use Rattle.rules.specs.Rules.{IsA, Applies, IsFirst}
+use Rattle.rules.specs.Sound.{Sound}
+use Rattle.rules.specs.Fields.{fields-again}
+use Rattle.rules.specs.Held.{sound-is-kept, same-kind, other-kind, refused-same, taken-with}
+use Rattle.rules.specs.First.{answers-first, first-one}
+use Rattle.rules.specs.Kept.{sound-empty, sound-kept}
+use Rattle.rules.specs.Spelled.{Spells, spells-file}
+
+-- a record is taken where no refusal applies, and else gets the first that applies, of which there is one
+pub answers : (c : Case) (bs : List ℕ) → Sound c →
+    ((isTaken (takenOf c bs .answer) ≡ true) × ((a : Answer) → Applies (itemsOf c) bs a → ⊥)) ⊎ IsFirst (itemsOf c) bs (takenOf c bs .answer)
+answers = answers-first
+
+pub one-answer : (c : Case) (bs : List ℕ) (a b : Answer) → IsFirst (itemsOf c) bs a → IsFirst (itemsOf c) bs b → a ≡ b
+one-answer c = first-one (itemsOf c)
+
+-- a refused record leaves the case as it was, all of it
+pub refused : (c : Case) (bs : List ℕ) → isTaken (takenOf c bs .answer) ≡ false → takenOf c bs .case ≡ c
+refused = refused-same
+
+-- a taken record is the next item of its kind, field for field, and all else held stays
+pub record Next (c d : Case) (bs : List ℕ) : Type 0 where
+  pub kind : Kind
+  pub named : IsA kind bs
+  pub item : listOf kind (itemsOf d) ≡ listOf kind (itemsOf c) ++ (itemOf kind (recordOf bs .fields) ∷ [])
+  pub fields : rowOf kind (itemOf kind (recordOf bs .fields)) ≡ recordOf bs .fields
+  pub others : (j : Kind) → (j ≡ kind → ⊥) → listOf j (itemsOf d) ≡ listOf j (itemsOf c)
+
+pub taken : (c : Case) (bs : List ℕ) → Sound c → isTaken (takenOf c bs .answer) ≡ true → Next c (takenOf c bs .case) bs
+unfolding recordOf
+taken c bs s h =
+    let t = taken-with c bs h in
+    let k = t .kind in
+    let r = recordOf bs .fields in
+    let x = itemOf k r in
+    record {
+      kind = k;
+      named = t .letter;
+      item = ap (λ d. listOf k (itemsOf d)) (t .case) ∙ same-kind c k x (sound-is-kept s) (t .next .room);
+      fields = fields-again k r refl (t .fit);
+      others = λ j n. ap (λ d. listOf j (itemsOf d)) (t .case) ∙ other-kind c j k x n;
+    }
+
+-- every case that records make is sound
+sound-from : (rs : List (List ℕ)) (c : Case) (m : ℕ) → Sound c → Sound (runFrom c m rs .case)
+unfolding runFrom
+sound-from [] c m s = s
+sound-from (r ∷ rs) c m s =
+    let t = takenOf c r in
+    cond-by (λ (q : Run). Sound (q .case)) (isTaken (t .answer)) {x = runFrom (t .case) (m + 1) rs} {y = record { case = t .case; answer = t .answer; taken = m }}
+    (λ e. sound-from rs (t .case) (m + 1) (sound-kept c r s))
+    (λ e. sound-kept c r s)
+
+pub sound : (bs : List ℕ) → Sound (runOf emptyCase bs .case)
+unfolding runOf
+sound bs = sound-from (cut bs) emptyCase 0 sound-empty
+
+-- a file all of whose records are taken gives the case that it spells
+pub spelled-case : (bs : List ℕ) → isTaken (runOf emptyCase bs .answer) ≡ true → Spells (cut bs) (runOf emptyCase bs)
+spelled-case = spells-file

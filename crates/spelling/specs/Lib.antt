@@ -1,0 +1,4 @@
+pub mod Digits
+pub mod Reading
+pub mod Spelled
+pub mod Examples

@@ -1,0 +1,76 @@
+-- What the spelling of a field means: each number from -999,999 to 9,999,999 has one spelling, and seven bytes are blank, the spelling of a
+-- number, or refused. Assumes nothing.
+use mathlib.Core.Path.{_≡_, refl, _∙_, sym, ap, subst}
+use mathlib.Core.Logic.{_↔_}
+use mathlib.Core.List.{List, _++_}
+use Prim.Native.Nat.{ℕ, zero, suc, _-_}
+use native.Mathlib.Omega.{arith}
+use lib.Dec.{leb→le, le→leb}
+use lib.IntN.{ℤ, pos, negsuc, negℤ}
+use lib.Signed.{_≤ℤ_}
+use lib.ListN.{length, replicate, length-append, length-replicate}
+use Rattle.record.specs.declared.Content.{Content}
+use Rattle.record.specs.declared.Content.the-variants.{Blank, Number, Bad}
+use Rattle.record.specs.Spelling.{space, contentOf}
+use Rattle.record.specs.Spell.{token, spell, Spellable}
+use Rattle.record.specs.Layout.{width}
+use Rattle.spelling.specs.Reading.{token-length, token-reads, after-spaces, Spelled, Says, says}
+
+-- each number of the range has a spelling of seven bytes
+pub spell-length : (z : ℤ) → Spellable z → length (spell z) ≡ width
+unfolding spell
+spell-length z h =
+    omega (arith, token-length z h, length-append (replicate (width - length (token z)) space) (token z), length-replicate (width - length (token z)) space)
+
+-- a number's spelling is read as the number
+pub spell-reads : (z : ℤ) → Spellable z → contentOf (spell z) ≡ Number z
+unfolding spell
+spell-reads z h = after-spaces (width - length (token z)) (token z) ∙ token-reads z h
+
+-- seven bytes that are read as a number are the spelling of that number: no number is read in part
+pub one-spelling : (bs : List ℕ) (z : ℤ) → length bs ≡ width → contentOf bs ≡ Number z → (bs ≡ spell z) × Spellable z
+unfolding spell
+one-spelling bs z l e =
+    let s : Says bs (Number z) = subst (Says bs) e (says bs) in
+    let r : Spelled bs z = s (omega arith) in
+    let k : r .spaces ≡ width - length (token z) =
+    omega (arith, ap length (r .text), length-append (replicate (r .spaces) space) (token z), length-replicate (r .spaces) space) in
+    (r .text ∙ ap (λ i. replicate i space ++ token z) k, r .fits)
+
+-- spaces are blank
+pub spaces-blank : (n : ℕ) → contentOf (replicate n space) ≡ Blank
+unfolding contentOf
+spaces-blank zero = refl
+spaces-blank (suc n) = spaces-blank n
+
+-- what is blank is spaces
+pub blank-spaces : (bs : List ℕ) → contentOf bs ≡ Blank → bs ≡ replicate (length bs) space
+blank-spaces bs e = subst (Says bs) e (says bs)
+
+-- two numbers have two spellings
+pub spell-apart : (y z : ℤ) → Spellable y → Spellable z → spell y ≡ spell z → y ≡ z
+spell-apart y z hy hz e =
+    let q : Number y ≡ Number z = sym (spell-reads y hy) ∙ ap contentOf e ∙ spell-reads z hz in
+    cc
+
+-- seven bytes are refused where they are neither spaces nor the spelling of a number
+pub bad-neither : (bs : List ℕ) → length bs ≡ width → (contentOf bs ≡ Bad) ↔ ((bs ≡ replicate width space → ⊥) × ((z : ℤ) → Spellable z → bs ≡ spell z → ⊥))
+bad-neither bs l = (
+  λ e. (
+    λ q. let b = spaces-blank width in let o : _≡_ {A = ℕ} 0 1 = cc (ap contentOf q) in omega arith,
+    λ z h q. let b = spell-reads z h in let o : _≡_ {A = ℕ} 0 1 = cc (ap contentOf q) in omega arith,
+  ),
+  λ n. go (contentOf bs) refl (n .0) (n .1),
+)
+  where
+    go : (c : Content) → contentOf bs ≡ c → (bs ≡ replicate width space → ⊥) → ((z : ℤ) → Spellable z → bs ≡ spell z → ⊥) → contentOf bs ≡ Bad
+    go Blank e b s = absurd (b (blank-spaces bs e ∙ ap (λ k. replicate k space) l))
+    go (Number z) e b s = let r = one-spelling bs z l e in absurd (s z (r .1) (r .0))
+    go Bad e b s = e
+
+-- the numbers that a field can spell
+pub spellable-range : (z : ℤ) → Spellable z ↔ ((negℤ (pos 999999) ≤ℤ z) × (z ≤ℤ pos 9999999))
+spellable-range (pos n) =
+    (λ h. (record { le = tt }, record { le = le→leb n 9999999 (omega arith) }), λ r. omega (arith, leb→le n 9999999 (r .1 .le)))
+spellable-range (negsuc n) =
+    (λ h. (record { le = le→leb n 999998 (omega arith) }, record { le = tt }), λ r. omega (arith, leb→le n 999998 (r .0 .le)))
