@@ -1,6 +1,7 @@
 -- What can be wrong with a field, by its rule and what it says; and the lowest field with a fault.
-use mathlib.Core.Bool.{Bool, true, false, _||_}
+use mathlib.Core.Bool.{Bool, true, false, not, _&&_, _||_}
 use Prim.Native.Nat.{ℕ, _^_}
+use lib.Dec.{eqb}
 use lib.IntN.{pos}
 use lib.Signed.{ltZ, leZ}
 use Rattle.integer.specs.Lowest.{lowest}
@@ -8,7 +9,6 @@ use Rattle.record.specs.declared.Content.{Content}
 use Rattle.record.specs.declared.Content.the-variants as content
 use Rattle.record.specs.declared.Record.{Record}
 use Rattle.record.specs.Layout.{fields, at}
-use Rattle.kinds.specs.declared.Kind.the-variants as kind
 use Rattle.kinds.specs.declared.Counts.{Counts}
 use Rattle.kinds.specs.declared.Range.{Range}
 use Rattle.kinds.specs.declared.Sort.{Sort}
@@ -57,10 +57,6 @@ atLeast m content.Blank = false
 atLeast m (content.Number z) = leZ (pos m) z
 atLeast m content.Bad = false
 
--- some fault of the input
-abbrev pub anyFault : Rule → Content → Bool
-anyFault r c = misspelled c || (missing r c || (extra r c || outside r c))
-
 -- a reference to an item that is not there, or a set with a mark at or above the number of sentences
 abbrev pub dangling : Counts → Sort → Content → Bool
 dangling n (sort.Reference k) c = atLeast (countOf n k) c
@@ -84,7 +80,6 @@ hasFault fault.Misspelled r c = misspelled c
 hasFault fault.Missing r c = missing r c
 hasFault fault.Extra r c = extra r c
 hasFault fault.OutOfRange r c = outside r c
-hasFault fault.Any r c = anyFault r c
 hasFault (fault.NotThere n) r c = notThere n r c
 
 -- whether field k has a fault, counted from 0
@@ -94,3 +89,17 @@ faultAt f s r k = hasFault f (ruleAt s k) (at (r .fields) k)
 -- the lowest field with a fault, counted from 0; the number of fields where there is none
 unfoldable pub lowestFault : Fault → Shape → Record → ℕ
 lowestFault f s r = lowest fields 0 (faultAt f s r)
+
+-- a number that is in the range of its sort, and refers to what is there
+abbrev pub good : Counts → Sort → Content → Bool
+good n s c = not (beyond (rangeOf s) c) && (not (dangling n s c) && isNumber c)
+
+-- a field that has no fault at all
+abbrev pub right : Counts → Rule → Content → Bool
+right n Blank c = isBlank c
+right n (Needed s) c = good n s c
+right n (Optional s) c = isBlank c || good n s c
+
+-- whether no field has a fault
+unfoldable pub faultless : Counts → Shape → Record → Bool
+faultless n s r = eqb (lowest fields 0 (λ (k : ℕ). not (right n (ruleAt s k) (at (r .fields) k)))) fields

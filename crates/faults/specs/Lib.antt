@@ -1,3 +1,3 @@
 pub mod Faults
 pub mod Answers
-pub mod Look
+pub mod Input

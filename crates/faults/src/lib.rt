@@ -2,11 +2,10 @@
 ghost use mathlib.Core.Path.{_≡_};
 ghost use Prim.Native.Nat.{_^_};
 ghost use Rattle.kinds.specs.Table.{isBlank};
-ghost use Rattle.faults.specs.Faults.{misspelled, missing, extra, beyond, outside, anyFault, atLeast, dangling, notThere, hasFault, lowestFault};
+ghost use Rattle.faults.specs.Faults.{misspelled, missing, extra, beyond, outside, atLeast, dangling, notThere, hasFault, lowestFault, good, right, faultless};
 ghost use Rattle.faults.specs.Answers.{numberOf, fieldOf};
-ghost use Rattle.faults.specs.Look.{wrongForm, fieldsAnswer, unread, lookOf};
+ghost use Rattle.faults.specs.Input.{wrongForm, fieldsAnswer, headOf};
 use kinds::Counts;
-use kinds::Filled;
 use kinds::Kind;
 use kinds::Letter;
 use kinds::Range;
@@ -14,16 +13,14 @@ use kinds::Rule;
 use kinds::Shape;
 use kinds::Sort;
 use record::Content;
-use record::Field;
 use record::Record;
 
-// What can be wrong with a field. Any: one of the four above it, which are the faults of the input.
+// What can be wrong with a field.
 pub enum Fault {
     Misspelled,
     Missing,
     Extra,
     OutOfRange,
-    Any,
     NotThere(Counts),
 }
 
@@ -43,11 +40,10 @@ pub enum Answer {
     WrongWayIn,
 }
 
-// What a record's bytes say, and the answer to them so far.
-pub struct Look {
-    pub shape: Shape,
-    pub row: Record,
-    pub answer: Answer,
+// What the head of a record says: its kind, or why it is refused.
+pub enum Head {
+    Of(Kind),
+    Refused(Answer),
 }
 
 fn is_misspelled(content: Content) -> bool
@@ -120,22 +116,6 @@ fn is_outside(rule: Rule, content: Content) -> bool
     }
 }
 
-// Some fault of the input.
-fn has_any_fault(rule: Rule, content: Content) -> bool
-    ensures { λ r. ⌜ r ≡ anyFault rule content ⌝ }
-{
-    if is_misspelled(content) {
-        return true;
-    }
-    if is_missing(rule, content) {
-        return true;
-    }
-    if is_extra(rule, content) {
-        return true;
-    }
-    is_outside(rule, content)
-}
-
 // A number that is m or more.
 fn is_at_least(m: usize, content: Content) -> bool
     ensures { λ r. ⌜ r ≡ atLeast m content ⌝ }
@@ -199,7 +179,6 @@ fn has_fault(fault: Fault, rule: Rule, content: Content) -> bool
         Fault::Missing => is_missing(rule, content),
         Fault::Extra => is_extra(rule, content),
         Fault::OutOfRange => is_outside(rule, content),
-        Fault::Any => has_any_fault(rule, content),
         Fault::NotThere(counts) => is_not_there(counts, rule, content),
     }
 }
@@ -238,13 +217,10 @@ fn has_wrong_form(shape: Shape, row: Record) -> bool
     }
 }
 
-// 14, 16 for a form, 15 and 16, in this order. The first test settles a record with no fault in one pass.
-fn fields_answer(shape: Shape, row: Record) -> Answer
+// 14, 16 for a form, 15 and 16, in this order.
+pub fn fields_answer(shape: Shape, row: Record) -> Answer
     ensures { λ r. ⌜ r ≡ fieldsAnswer shape row ⌝ }
 {
-    if lowest_fault(Fault::Any, shape, row) == Record::FIELDS {
-        return Answer::Taken;
-    }
     let bad = lowest_fault(Fault::Misspelled, shape, row);
     if bad < Record::FIELDS {
         return Answer::Misspelled((bad + 1) as u8);
@@ -267,51 +243,69 @@ fn fields_answer(shape: Shape, row: Record) -> Answer
     Answer::Taken
 }
 
-// A record of which no field is read.
-fn unread_with(answer: Answer) -> Look
-    ensures { λ r. ⌜ r ≡ unread answer ⌝ }
+// A number that is in the range of its sort, and refers to what is there.
+fn is_good(counts: Counts, sort: Sort, content: Content) -> bool
+    ensures { λ r. ⌜ r ≡ good counts sort content ⌝ }
 {
-    let blank = Field {
-        content: Content::Blank,
-    };
-    let fields = [blank; Record::FIELDS];
-    Look {
-        shape: Shape {
-            kind: Kind::State,
-            form: 0,
-            filled: Filled {
-                at: [false; Record::FIELDS],
-            },
-        },
-        row: Record { fields: fields },
-        answer: answer,
+    if is_beyond(kinds::range_of(sort), content) {
+        return false;
+    }
+    if is_dangling(counts, sort, content) {
+        return false;
+    }
+    kinds::is_number(content)
+}
+
+// A field that has no fault at all.
+fn is_right(counts: Counts, rule: Rule, content: Content) -> bool
+    ensures { λ r. ⌜ r ≡ right counts rule content ⌝ }
+{
+    match rule {
+        Rule::Blank => is_blank(content),
+        Rule::Needed(sort) => is_good(counts, sort, content),
+        Rule::Optional(sort) => {
+            if is_blank(content) {
+                true
+            } else {
+                is_good(counts, sort, content)
+            }
+        }
     }
 }
 
-// What a record's bytes say: 11, 12, 13, then the fields.
-pub fn look_at(bytes: &[u8]) -> Look
-    ensures { λ r. ⌜ r ≡ lookOf (now (bytes .entry)) ⌝ }
+// Whether no field has a fault: one pass for a record that is right.
+pub fn fits(counts: Counts, shape: Shape, row: Record) -> bool
+    ensures { λ r. ⌜ r ≡ faultless counts shape row ⌝ }
+{
+    let fields = row.fields;
+    let mut k: usize = 0;
+    while k < Record::FIELDS {
+        let field = fields[k];
+        let content = field.content;
+        if is_right(counts, kinds::rule_at(shape, k), content) {
+            k = k + 1;
+        } else {
+            return false;
+        }
+    }
+    true
+}
+
+// The head of a record: 11, 12, 13.
+pub fn head_of(bytes: &[u8]) -> Head
+    ensures { λ r. ⌜ r ≡ headOf (now (bytes .entry)) ⌝ }
 {
     if bytes.len() != Record::LENGTH {
-        return unread_with(Answer::NotARecord);
+        return Head::Refused(Answer::NotARecord);
     }
     let last = bytes[Record::LENGTH - 1];
     if last != b'\n' {
-        return unread_with(Answer::NoLineFeed);
+        return Head::Refused(Answer::NoLineFeed);
     }
     let letter = kinds::kind_of(bytes[0]);
     match letter {
-        Letter::Names(kind) => {
-            let row = Record::read(bytes);
-            let shape = kinds::shape_of(kind, row);
-            let answer = fields_answer(shape, row);
-            Look {
-                shape: shape,
-                row: row,
-                answer: answer,
-            }
-        }
-        Letter::Unknown => unread_with(Answer::NoSuchKind),
+        Letter::Names(kind) => Head::Of(kind),
+        Letter::Unknown => Head::Refused(Answer::NoSuchKind),
     }
 }
 

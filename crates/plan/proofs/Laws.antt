@@ -1,30 +1,35 @@
 -- What a file's records give, record by record. Assumes nothing.
-use mathlib.Core.Path.{_≡_, refl, _∙_, sym, ap}
+use mathlib.Core.Path.{_≡_, refl, _∙_, sym, ap, subst}
 use mathlib.Core.Bool.{Bool, true, false, cond}
 use mathlib.Core.List.{List, [], _∷_}
 use Prim.Native.Nat.{ℕ, zero, suc, _+_, _-_, _<_, _≤_, min}
 use native.Mathlib.Omega.{arith}
-use lib.Dec.{leb, ltb}
-use lib.ListN.{length, take, drop, set, length-drop, drop-of-length-le}
+use lib.Dec.{eqb, leb, ltb}
+use lib.ListN.{length, take, drop, getD, set, length-drop, drop-of-length-le}
 use lib.Seq.{take-all, take-length, drop-length, drop-drop}
-use borrow.Author.Tests.{ne-eqb, leb-true, leb-false}
-use Rattle.record.specs.Layout.{recordLength}
+use borrow.Author.Tests.{eqb-true, ne-eqb, leb-true, leb-false}
+use Rattle.record.specs.declared.Record.{Record}
+use Rattle.record.specs.Layout.{recordLength, recordOf}
 use Rattle.kinds.specs.declared.Kind.{Kind}
 use Rattle.kinds.specs.declared.Kind.the-variants as kind
 use Rattle.kinds.specs.declared.Counts.{Counts}
-use Rattle.kinds.specs.Kinds.{rankOf, countOf}
+use Rattle.kinds.specs.declared.Letter.{Letter}
+use Rattle.kinds.specs.declared.Letter.the-variants.{Names, Unknown}
+use Rattle.kinds.specs.Kinds.{kindOf, rankOf, countOf}
+use Rattle.kinds.specs.Table.{shapeOf}
 use Rattle.items.specs.declared.Place.{Place}
 use Rattle.items.specs.Items.{Item, itemOf}
-use Rattle.faults.specs.declared.Look.{Look}
+use Rattle.faults.specs.declared.Head.{Head}
+use Rattle.faults.specs.declared.Head.the-variants.{Of, Refused}
 use Rattle.faults.specs.declared.Answer.{Answer}
 use Rattle.faults.specs.declared.Answer.the-variants.{Taken, NotARecord, NoLineFeed, NoSuchKind, Misspelled, Misfilled, OutOfRange, OutOfOrder, NoRoom, NotThere, Misplaced, WrongWayIn}
-use Rattle.faults.specs.Look.{lookOf, unread}
+use Rattle.faults.specs.Input.{fieldsAnswer, lineFeed, namedHead, endedHead, headOf}
 use Rattle.plan.specs.declared.Loops.{Loops}
 use Rattle.plan.specs.declared.Case.{Case}
 use Rattle.plan.specs.declared.Result.{Result}
 use Rattle.plan.specs.declared.Run.{Run}
 use Rattle.plan.specs.Cases.{roomOf, oneMore, with}
-use Rattle.plan.specs.Taking.{isTaken, lastRank, thereAnswer, roomAnswer, orderAnswer, answerOf, takenBy, takenOf, cutFrom, cut, runFrom, runOf}
+use Rattle.plan.specs.Taking.{isTaken, lastRank, thereAnswer, roomAnswer, orderAnswer, answerOf, takenAs, takenBy, takenOf, cutFrom, cut, runFrom, runOf}
 
 -- ---- the records of a file: none at its end, and else the next one and the rest
 
@@ -67,14 +72,38 @@ module _ (s : List ℕ) (at e : ℕ) (h : at ≤ length s) (p : e ≡ at + min r
       let q : e ≡ at + (e - at) = omega arith in
       ap (λ k. drop k s) q ∙ sym (drop-drop (e - at) at s) ∙ ap (λ k. drop k (drop at s)) here ∙ min-part recordLength (drop at s) _ refl .1
 
--- ---- one record: looked at, answered, and taken or not
+-- ---- the head of a record
+
+-- a head that says a kind is that of a whole record, and one that is refused is not taken
+abbrev Fair : List ℕ → Head → Type 0
+Fair bs (Of k) = length bs ≡ recordLength
+Fair bs (Refused a) = isTaken a ≡ false
+
+fair-named : (bs : List ℕ) → length bs ≡ recordLength → (l : Letter) → Fair bs (namedHead l)
+fair-named bs h (Names k) = h
+fair-named bs h Unknown = refl
+
+fair-ended : (bs : List ℕ) → length bs ≡ recordLength → (t : Bool) (l : Letter) → Fair bs (cond t (namedHead l) (Refused NoLineFeed))
+fair-ended bs h true l = fair-named bs h l
+fair-ended bs h false l = refl
+
+fair-cut : (bs : List ℕ) (t : Bool) → eqb (length bs) recordLength ≡ t → Fair bs (cond t (endedHead bs) (Refused NotARecord))
+unfolding endedHead
+fair-cut bs true e = fair-ended bs (eqb-true _ _ e) (eqb (getD bs (recordLength - 1) 0) lineFeed) (kindOf (getD bs 0 0))
+fair-cut bs false e = refl
+
+pub fair : (bs : List ℕ) (h : Head) → headOf bs ≡ h → Fair bs h
+unfolding headOf
+fair bs h e = subst (Fair bs) e (fair-cut bs _ refl)
+
+-- ---- one record: answered, and taken or not
 
 -- the case with the item that a record says
-abbrev pub stored : Case → Look → Case
-stored c k = with c (k .shape .kind) (itemOf (k .shape .kind) (k .row .fields))
+abbrev pub stored : Case → Kind → Record → Case
+stored c k r = with c k (itemOf k (r .fields))
 
-pub kept : (c : Case) (k : Look) (i : Kind) (x : Item i) → x ≡ itemOf i (k .row .fields) → k .shape .kind ≡ i → with c i x ≡ stored c k
-kept c k i x ex ei = ap (with c i) ex ∙ ap (λ j. with c j (itemOf j (k .row .fields))) (sym ei)
+pub kept : (c : Case) (k : Kind) (r : Record) (i : Kind) (x : Item i) → x ≡ itemOf i (r .fields) → k ≡ i → with c i x ≡ stored c k r
+kept c k r i x ex ei = ap (with c i) ex ∙ ap (λ j. with c j (itemOf j (r .fields))) (sym ei)
 
 -- a place stored and counted, with these loops
 abbrev pub placed : Case → Place → Loops → Case
@@ -89,15 +118,28 @@ placed c x l =
       places = set (c .places) (c .count .places) x;
     }
 
--- what the records give where the next is looked at as k and answered a, which takes it or not
-abbrev pub step : Case → ℕ → List (List ℕ) → Look → Answer → Bool → Run
-step c m rs k a t = cond t (runFrom (cond t (stored c k) c) (m + 1) rs) (record { case = cond t (stored c k) c; answer = a; taken = m })
+-- what the records give where the next is r, of kind k, and is answered a, which takes it or not
+abbrev pub step : Case → ℕ → List (List ℕ) → Kind → Record → Answer → Bool → Run
+step c m rs k r a t = cond t (runFrom (cond t (stored c k r) c) (m + 1) rs) (record { case = cond t (stored c k r) c; answer = a; taken = m })
 
-pub run-next : (c : Case) (m : ℕ) (r : List ℕ) (rs : List (List ℕ)) (k : Look) (a : Answer) (t : Bool) → k ≡ lookOf r → a ≡ answerOf (c .count) (c .loops) k → isTaken a ≡ t → runFrom c m (r ∷ rs) ≡ step c m rs k a t
-unfolding runFrom takenOf takenBy
-run-next c m r rs k a t ek ea et =
-    let f = answerOf (c .count) (c .loops) in
-    ap (λ x. step c m rs x (f x) (isTaken (f x))) (sym ek) ∙ ap (λ x. step c m rs k x (isTaken x)) (sym ea) ∙ ap (step c m rs k a) et
+-- what the records give after the next is taken or not
+abbrev after : ℕ → List (List ℕ) → Result → Bool → Run
+after m rs x t = cond t (runFrom (x .case) (m + 1) rs) (record { case = x .case; answer = x .answer; taken = m })
+
+pub run-next : (c : Case) (m : ℕ) (bs : List ℕ) (rs : List (List ℕ)) (k : Kind) (r : Record) (a : Answer) (t : Bool) → headOf bs ≡ Of k → r ≡ recordOf bs → a ≡ answerOf (c .count) (c .loops) k r → isTaken a ≡ t → runFrom c m (bs ∷ rs) ≡ step c m rs k r a t
+unfolding runFrom takenOf takenAs
+run-next c m bs rs k r a t ek er ea et =
+    ap (λ h. after m rs (takenBy c h bs) (isTaken (takenBy c h bs .answer))) ek
+    ∙ ap (λ x. after m rs (takenAs c k x) (isTaken (takenAs c k x .answer))) (sym er)
+    ∙ ap (λ x. step c m rs k r x (isTaken x)) (sym ea)
+    ∙ ap (step c m rs k r a) et
+
+pub run-refused : (c : Case) (m : ℕ) (bs : List ℕ) (rs : List (List ℕ)) (a : Answer) → headOf bs ≡ Refused a → runFrom c m (bs ∷ rs) ≡ record { case = c; answer = a; taken = m }
+unfolding runFrom takenOf
+run-refused c m bs rs a e =
+    let y : Result = record { case = c; answer = a } in
+    ap (λ h. after m rs (takenBy c h bs) (isTaken (takenBy c h bs .answer))) e
+    ∙ ap (after m rs y) (fair bs (Refused a) e)
 
 -- ---- a record that is taken finds room
 
@@ -109,13 +151,13 @@ well : (t : Bool) (a b : Answer) → isTaken b ≡ t → isTaken (cond t a b) �
 well true a b e h = h
 well false a b e h = absurd (let z : _≡_ {A = ℕ} 0 1 = cc in omega arith)
 
-pub has-room : (n : Counts) (l : Loops) (k : Look) → isTaken (answerOf n l k) ≡ true → countOf n (k .shape .kind) < roomOf (k .shape .kind)
-unfolding answerOf orderAnswer roomAnswer
-has-room n l k h =
-    let i = k .shape .kind in
-    let o = well (isTaken (k .answer)) (orderAnswer n l (k .shape) (k .row)) (k .answer) refl h in
-    let r = passed (ltb (rankOf i) (lastRank n)) OutOfOrder (roomAnswer n l (k .shape) (k .row)) refl o .1 in
-    leb-false (roomOf i) (countOf n i) (passed (leb (roomOf i) (countOf n i)) NoRoom (thereAnswer n l (k .shape) (k .row)) refl r .0)
+pub has-room : (n : Counts) (l : Loops) (k : Kind) (r : Record) → isTaken (answerOf n l k r) ≡ true → countOf n k < roomOf k
+unfolding answerOf orderAnswer roomAnswer shapeOf
+has-room n l k r h =
+    let s = shapeOf k r in
+    let o = well (isTaken (fieldsAnswer s r)) (orderAnswer n l s r) (fieldsAnswer s r) refl h in
+    let p = passed (ltb (rankOf k) (lastRank n)) OutOfOrder (roomAnswer n l s r) refl o .1 in
+    leb-false (roomOf k) (countOf n k) (passed (leb (roomOf k) (countOf n k)) NoRoom (thereAnswer n l s r) refl p .0)
 
 -- ---- a file of one record gives what taking it gives
 
@@ -143,21 +185,17 @@ is-so WrongWayIn h = cc
 abbrev answered : Run → Result
 answered r = record { case = r .case; answer = r .answer }
 
-one : (c : Case) (k : Look) (a : Answer) (t : Bool) → isTaken a ≡ t → answered (step c 0 [] k a t) ≡ record { case = cond t (stored c k) c; answer = a }
+one : (x : Result) (t : Bool) → isTaken (x .answer) ≡ t → answered (after 0 [] x t) ≡ x
 unfolding runFrom
-one c k a true h = ap (λ x. record { case = stored c k; answer = x }) (is-so a h)
-one c k a false h = refl
+one x true h = ap (λ a. record { case = x .case; answer = a }) (is-so (x .answer) h)
+one x false h = refl
 
-pub run-one : (c : Case) (bs : List ℕ) → length bs ≡ recordLength → record { case = runOf c bs .case; answer = runOf c bs .answer } ≡ takenOf c bs
-unfolding runOf takenOf takenBy
-run-one c bs h =
-    let a = answerOf (c .count) (c .loops) (lookOf bs) in
-    ap (λ rs. answered (runFrom c 0 rs)) (cut-one bs h)
-    ∙ ap answered (run-next c 0 bs [] (lookOf bs) a (isTaken a) refl refl refl)
-    ∙ one c (lookOf bs) a (isTaken a) refl
+pub run-one : (c : Case) (bs : List ℕ) → length bs ≡ recordLength → answered (runOf c bs) ≡ takenOf c bs
+unfolding runOf runFrom
+run-one c bs h = ap (λ rs. answered (runFrom c 0 rs)) (cut-one bs h) ∙ one (takenOf c bs) _ refl
 
 pub not-one : (c : Case) (bs : List ℕ) → (length bs ≡ recordLength → ⊥) → record { case = c; answer = NotARecord } ≡ takenOf c bs
-unfolding takenOf takenBy lookOf answerOf
+unfolding takenOf headOf
 not-one c bs h =
-    let e : lookOf bs ≡ unread NotARecord = simp (ne-eqb _ _ h) in
-    sym (ap (takenBy c) e)
+    let e : headOf bs ≡ Refused NotARecord = simp (ne-eqb _ _ h) in
+    sym (ap (λ x. takenBy c x bs) e)

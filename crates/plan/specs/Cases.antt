@@ -1,10 +1,9 @@
 -- A case: what it holds, the empty one, and one with one item more. The abstract case: the items of each kind as a list.
 use mathlib.Core.List.{List}
-use mathlib.Core.Bool.{Bool, true, false}
+use mathlib.Core.Bool.{true, false}
 use Prim.Native.Nat.{ℕ, _+_}
 use lib.IntN.{pos}
 use lib.ListN.{take, set, replicate}
-use Rattle.record.specs.declared.Field.{Field}
 use Rattle.kinds.specs.declared.Kind.{Kind}
 use Rattle.kinds.specs.declared.Kind.the-variants as kind
 use Rattle.kinds.specs.declared.Counts.{Counts}
@@ -13,7 +12,6 @@ use Rattle.items.specs.declared.Ref.the-variants as ref
 use Rattle.items.specs.declared.Form.the-variants as form
 use Rattle.items.specs.declared.LoopMark.{LoopMark}
 use Rattle.items.specs.declared.LoopMark.the-variants as mark
-use Rattle.plan.specs.declared.PlaceNo.{PlaceNo}
 use Rattle.plan.specs.declared.Loops.{Loops}
 use Rattle.items.specs.declared.State.{State}
 use Rattle.items.specs.declared.Guard.{Guard}
@@ -21,7 +19,7 @@ use Rattle.items.specs.declared.Move.{Move}
 use Rattle.items.specs.declared.Sentence.{Sentence}
 use Rattle.items.specs.declared.Place.{Place}
 use Rattle.plan.specs.declared.Case.{Case}
-use Rattle.items.specs.Items.{Item, stateOf, guardOf, moveOf, sentenceOf, placeOf}
+use Rattle.items.specs.Items.{Item}
 
 -- how many items of a kind a case has room for
 abbrev pub roomOf : Kind → ℕ

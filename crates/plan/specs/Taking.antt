@@ -6,19 +6,20 @@ use lib.Dec.{eqb, leb, ltb}
 use lib.ListN.{length, take, drop}
 use Rattle.record.specs.declared.Field.{Field}
 use Rattle.record.specs.declared.Record.{Record}
-use Rattle.record.specs.Layout.{at, recordLength}
+use Rattle.record.specs.Layout.{at, recordLength, recordOf}
 use Rattle.kinds.specs.declared.Kind.{Kind}
 use Rattle.kinds.specs.declared.Kind.the-variants as kind
 use Rattle.kinds.specs.declared.Counts.{Counts}
 use Rattle.kinds.specs.declared.Shape.{Shape}
 use Rattle.kinds.specs.Kinds.{rankOf, countOf}
-use Rattle.kinds.specs.Table.{natural, isNumber, isBlank}
+use Rattle.kinds.specs.Table.{natural, isNumber, isBlank, shapeOf}
 use Rattle.faults.specs.declared.Fault.the-variants as fault
 use Rattle.faults.specs.declared.Answer.{Answer}
 use Rattle.faults.specs.declared.Answer.the-variants.{Taken, NotARecord, NoLineFeed, NoSuchKind, Misspelled, Misfilled, OutOfRange, OutOfOrder, NoRoom, NotThere, Misplaced, WrongWayIn}
-use Rattle.faults.specs.declared.Look.{Look}
+use Rattle.faults.specs.declared.Head.{Head}
+use Rattle.faults.specs.declared.Head.the-variants.{Of, Refused}
 use Rattle.faults.specs.Faults.{lowestFault}
-use Rattle.faults.specs.Look.{lookOf, orElse}
+use Rattle.faults.specs.Input.{headOf, fieldsAnswer, orElse}
 use Rattle.plan.specs.declared.Loops.{Loops}
 use Rattle.plan.specs.declared.Case.{Case}
 use Rattle.plan.specs.declared.Result.{Result}
@@ -89,21 +90,31 @@ isTaken (NotThere f) = false
 isTaken (Misplaced f) = false
 isTaken WrongWayIn = false
 
--- the answer to a record, where so many items and these loops are held
-unfoldable pub answerOf : Counts → Loops → Look → Answer
-answerOf n l k = cond (isTaken (k .answer)) (orderAnswer n l (k .shape) (k .row)) (k .answer)
+-- why a head is refused
+abbrev pub refusalOf : Head → Answer
+refusalOf (Of k) = Taken
+refusalOf (Refused a) = a
 
--- taking a record: the item is stored where it is taken, and else nothing changes
-unfoldable pub takenBy : Case → Look → Result
-takenBy c k =
-    record {
-      case =
-          cond (isTaken (answerOf (c .count) (c .loops) k)) (with c (k .shape .kind) (itemOf (k .shape .kind) (k .row .fields))) c;
-      answer = answerOf (c .count) (c .loops) k;
-    }
+-- the answer to a record of kind k: 14 to 16, and where none applies 21 to 26
+unfoldable pub answerOf : Counts → Loops → Kind → Record → Answer
+answerOf n l k r =
+    let s = shapeOf k r in
+    cond (isTaken (fieldsAnswer s r)) (orderAnswer n l s r) (fieldsAnswer s r)
 
+-- taking the record r of kind k: its item is stored where it is taken, and else nothing changes
+unfoldable pub takenAs : Case → Kind → Record → Result
+takenAs c k r =
+    let a = answerOf (c .count) (c .loops) k r in
+    record { case = cond (isTaken a) (with c k (itemOf k (r .fields))) c; answer = a }
+
+-- taking a record by its head: 11 to 13, or its kind
+abbrev pub takenBy : Case → Head → List ℕ → Result
+takenBy c (Of k) bs = takenAs c k (recordOf bs)
+takenBy c (Refused a) bs = record { case = c; answer = a }
+
+-- taking a record
 unfoldable pub takenOf : Case → List ℕ → Result
-takenOf c bs = takenBy c (lookOf bs)
+takenOf c bs = takenBy c (headOf bs) bs
 
 -- a file is a row of records, the last of which may be short; at most n are cut off
 unfoldable pub cutFrom : ℕ → List ℕ → List (List ℕ)

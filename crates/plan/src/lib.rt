@@ -1,16 +1,19 @@
 // A case, and its collector: a record's bytes become the next item of their kind, or are refused and nothing changes.
 ghost use mathlib.Core.Path.{_≡_};
-ghost use mathlib.Core.Bool.{cond};
+ghost use mathlib.Core.Bool.{cond, _&&_, _||_};
 ghost use lib.Dec.{ltb};
 ghost use Prim.Native.Nat.{_+_, _-_, _≤_, _<_, _^_, min};
-ghost use Rattle.record.specs.Layout.{recordLength};
+ghost use Rattle.record.specs.Layout.{at, recordLength};
 ghost use Rattle.kinds.specs.declared.Kind.the-variants as kind;
 ghost use Rattle.kinds.specs.Kinds.{rankOf, countOf};
+ghost use Rattle.kinds.specs.Table.{natural, isNumber, shapeOf};
+ghost use Rattle.faults.specs.declared.Fault.the-variants as fault;
+ghost use Rattle.faults.specs.Faults.{lowestFault};
 ghost use Rattle.plan.specs.Cases.{emptyCase, roomOf, loopsAfter};
-ghost use Rattle.plan.specs.Taking.{isClosed, isTaken, lastRank, wayAnswer, markAnswer, placeAnswer, layoutAnswer, orderAnswer, answerOf, takenOf, runOf};
+ghost use Rattle.plan.specs.Taking.{isClosed, isOpen, isLong, isTaken, refusalOf, lastRank, wayAnswer, placeAnswer, layoutAnswer, orderAnswer, answerOf, takenOf, runOf};
 use faults::Answer;
 use faults::Fault;
-use faults::Look;
+use faults::Head;
 use items::Form;
 use items::Guard;
 use items::LoopMark;
@@ -22,7 +25,6 @@ use items::State;
 use kinds::Counts;
 use kinds::Kind;
 use kinds::PerCounter;
-use kinds::Shape;
 use record::Record;
 
 // The number of a place, counted from 0.
@@ -74,6 +76,16 @@ fn is_taken(answer: Answer) -> bool
         Answer::NotThere(_) => false,
         Answer::Misplaced(_) => false,
         Answer::WrongWayIn => false,
+    }
+}
+
+// Why a head is refused.
+fn refusal(head: Head) -> Answer
+    ensures { λ r. ⌜ r ≡ refusalOf head ⌝ }
+{
+    match head {
+        Head::Of(_) => Answer::Taken,
+        Head::Refused(answer) => answer,
     }
 }
 
@@ -150,6 +162,22 @@ impl Loops {
         let end = self.end;
         if self.endless { end.0 <= n } else { false }
     }
+
+    // Whether a record of place n has a loop mark inside an open loop, or one whose loop would pass the last place.
+    fn bars(self, n: usize, row: Record) -> bool
+        requires { ⌜ n ≤ roomOf kind.Place ⌝ }
+        ensures { λ r. ⌜ r ≡ (isNumber (at (row .fields) 3) && (isOpen self n || isLong n (natural (at (row .fields) 3)))) ⌝ }
+    {
+        let length = items::content_at(row, 3);
+        if kinds::is_number(length) {
+            let end = self.end;
+            if n < end.0 {
+                return true;
+            }
+            return Case::PLACES < n + kinds::natural_of(length) as usize;
+        }
+        false
+    }
 }
 
 // 26: field 2 filled at place 0, or blank later.
@@ -169,25 +197,7 @@ fn way_answer(n: usize, row: Record) -> Answer
     Answer::Taken
 }
 
-// 25: a loop mark inside an open loop, or one whose loop would pass the last place.
-fn mark_answer(loops: Loops, n: usize, row: Record) -> Answer
-    requires { ⌜ n ≤ roomOf kind.Place ⌝ }
-    ensures { λ r. ⌜ r ≡ markAnswer loops n (row .fields) ⌝ }
-{
-    let length = items::content_at(row, 3);
-    if kinds::is_number(length) {
-        let end = loops.end;
-        if n < end.0 {
-            return Answer::Misplaced(4);
-        }
-        if Case::PLACES < n + kinds::natural_of(length) as usize {
-            return Answer::Misplaced(4);
-        }
-    }
-    way_answer(n, row)
-}
-
-// 25: a place after the endless loop has closed.
+// 25: a place after the endless loop has closed, or a loop mark that may not stand there.
 fn place_answer(loops: Loops, n: usize, row: Record) -> Answer
     requires { ⌜ n ≤ roomOf kind.Place ⌝ }
     ensures { λ r. ⌜ r ≡ placeAnswer loops n (row .fields) ⌝ }
@@ -195,7 +205,10 @@ fn place_answer(loops: Loops, n: usize, row: Record) -> Answer
     if loops.closed(n) {
         return Answer::Misplaced(0);
     }
-    mark_answer(loops, n, row)
+    if loops.bars(n, row) {
+        return Answer::Misplaced(4);
+    }
+    way_answer(n, row)
 }
 
 // 25 and 26, of a place.
@@ -212,33 +225,35 @@ fn layout_answer(count: Counts, loops: Loops, kind: Kind, row: Record) -> Answer
     }
 }
 
-// The results that come from the state, in order: 21, 22, 23, 25, 26.
-fn state_answer(count: Counts, loops: Loops, shape: Shape, row: Record) -> Answer
-    ensures { λ r. ⌜ r ≡ orderAnswer count loops shape row ⌝ }
+// The results that come from the state, in order: 21, 22, 23 (absent: the lowest field that refers to nothing), 25, 26.
+fn state_answer(count: Counts, loops: Loops, kind: Kind, row: Record, absent: usize) -> Answer
+    requires { ⌜ absent ≡ lowestFault (fault.NotThere count) (shapeOf kind row) row ⌝ }
+    ensures { λ r. ⌜ r ≡ orderAnswer count loops (shapeOf kind row) row ⌝ }
 {
-    let kind = shape.kind;
     if rank(kind) < last_rank(count) {
         return Answer::OutOfOrder;
     }
     if room_of(kind) <= count.of(kind) {
         return Answer::NoRoom;
     }
-    let absent = faults::lowest_fault(Fault::NotThere(count), shape, row);
     if absent < Record::FIELDS {
         return Answer::NotThere((absent + 1) as u8);
     }
     layout_answer(count, loops, kind, row)
 }
 
-// The answer to a record, where so many items and these loops are held.
-fn answer_of(count: Counts, loops: Loops, look: Look) -> Answer
-    ensures { λ r. ⌜ r ≡ answerOf count loops look ⌝ }
+// The answer to a record of this kind. The first test settles a record whose fields are right in one pass.
+fn answer_of(count: Counts, loops: Loops, kind: Kind, row: Record) -> Answer
+    ensures { λ r. ⌜ r ≡ answerOf count loops kind row ⌝ }
 {
-    let answer = look.answer;
+    let shape = kinds::shape_of(kind, row);
+    if faults::fits(count, shape, row) {
+        return state_answer(count, loops, kind, row, Record::FIELDS);
+    }
+    let answer = faults::fields_answer(shape, row);
     if is_taken(answer) {
-        let shape = look.shape;
-        let row = look.row;
-        return state_answer(count, loops, shape, row);
+        let absent = faults::lowest_fault(Fault::NotThere(count), shape, row);
+        return state_answer(count, loops, kind, row, absent);
     }
     answer
 }
@@ -315,12 +330,17 @@ impl Case {
         let mut taken: usize = 0;
         while at < src.len() {
             let e = record_end(at, src.len());
-            let look = faults::look_at(&src[at..e]);
-            let answer = answer_of(self.count, self.loops, look);
+            let head = faults::head_of(&src[at..e]);
+            let Head::Of(kind) = head else {
+                return Run {
+                    case: self,
+                    answer: refusal(head),
+                    taken: taken,
+                };
+            };
+            let row = Record::read(&src[at..e]);
+            let answer = answer_of(self.count, self.loops, kind, row);
             if is_taken(answer) {
-                let shape = look.shape;
-                let row = look.row;
-                let kind = shape.kind;
                 match kind {
                     Kind::State => {
                         let n = self.count.states;

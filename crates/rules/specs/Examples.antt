@@ -13,11 +13,10 @@ use Rattle.kinds.specs.Kinds.{kindOf}
 use Rattle.kinds.specs.Table.{shapeOf, ruleAt}
 use Rattle.faults.specs.Faults.{lowestFault}
 use Rattle.faults.specs.Answers.{numberOf, fieldOf}
-use Rattle.faults.specs.Look.{rangeAnswer, extraAnswer, missingAnswer, formAnswer, fieldsAnswer, endedLook, lookOf}
+use Rattle.faults.specs.Input.{rangeAnswer, extraAnswer, missingAnswer, formAnswer, fieldsAnswer, endedHead, headOf}
 use Rattle.items.specs.Items.{perCounter, stateOf, guardOf, moveOf, formOf, sentenceOf, markOf, placeOf}
-use Rattle.plan.specs.declared.Run.{Run}
 use Rattle.plan.specs.Cases.{emptyCase}
-use Rattle.plan.specs.Taking.{wayAnswer, markAnswer, placeAnswer, thereAnswer, roomAnswer, orderAnswer, answerOf, takenBy, takenOf, cutFrom, cut, runFrom, runOf}
+use Rattle.plan.specs.Taking.{wayAnswer, markAnswer, placeAnswer, thereAnswer, roomAnswer, orderAnswer, answerOf, takenAs, takenOf, cutFrom, cut, runFrom, runOf}
 
 -- the bytes of lines of text
 unfoldable pub bytesOf : List String → List ℕ
@@ -65,5 +64,5 @@ files =
 
 pub examples : map (λ (f : List String). resultOf (bytesOf f)) files
     ≡ (0 ∷ 15 ∷ 0 ∷ []) ∷ (14 ∷ 4 ∷ 3 ∷ []) ∷ (16 ∷ 11 ∷ 5 ∷ []) ∷ (23 ∷ 11 ∷ 3 ∷ []) ∷ []
-unfolding files changed twelveRounds bytesOf resultOf lowest contentOf negative alone leading digits fieldAt recordOf kindOf shapeOf ruleAt lowestFault rangeAnswer extraAnswer missingAnswer formAnswer fieldsAnswer endedLook lookOf perCounter stateOf guardOf moveOf formOf sentenceOf markOf placeOf emptyCase wayAnswer markAnswer placeAnswer thereAnswer roomAnswer orderAnswer answerOf takenBy takenOf cutFrom cut runFrom runOf
+unfolding files changed twelveRounds bytesOf resultOf lowest contentOf negative alone leading digits fieldAt recordOf kindOf shapeOf ruleAt lowestFault rangeAnswer extraAnswer missingAnswer formAnswer fieldsAnswer endedHead headOf perCounter stateOf guardOf moveOf formOf sentenceOf markOf placeOf emptyCase wayAnswer markAnswer placeAnswer thereAnswer roomAnswer orderAnswer answerOf takenAs takenOf cutFrom cut runFrom runOf
 examples = refl

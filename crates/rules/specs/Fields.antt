@@ -1,16 +1,17 @@
 -- No number is lost on the way into a case: the fields of an item are the fields of its record again. Assumes nothing.
 use mathlib.Core.Path.{_≡_, refl, sym, ap, subst, _∙_}
 use mathlib.Core.List.{List, [], _∷_, _++_, map}
-use mathlib.Core.Bool.{Bool, true, false, not, cond, _||_, true≢false}
+use mathlib.Core.Bool.{Bool, true, false, cond, _||_, true≢false}
 use Prim.Native.Nat.{ℕ, zero, suc, _+_, _-_, _%_, _≤_, _<_}
 use native.Mathlib.Nat.{mod-eq-of-lt}
 use native.Mathlib.Omega.{arith}
 use borrow.Author.Tests.{ltb-false}
-use lib.Dec.{T, lit<}
+use lib.Dec.{lit<}
 use lib.IntN.{ℤ, pos, negsuc}
-use lib.Signed.{_≤ℤ_, ltZ, leZ, ltZ-yes, ltZ-no, leZ-yes, <ℤ-≤ℤ-trans, clashℤ}
+use lib.Signed.{ltZ, leZ}
 use lib.ListN.{length, getD, drop, replicate}
 use lib.Seq.{ext-getD}
+use Rattle.integer.specs.Order.{zarith}
 use Rattle.integer.specs.Tests.{neither}
 use Rattle.integer.specs.Tab.{tab, length-tab, at-tab}
 use Rattle.record.specs.declared.Content.{Content}
@@ -30,25 +31,14 @@ use Rattle.rules.specs.Sound.{shape, Fit}
 
 -- ---- ranges: a number of a range is in every wider one
 
-refuted : (b : Bool) → (T b → ⊥) → b ≡ false
-refuted true h = absurd (h tt)
-refuted false h = refl
-
-at-most : (a b : ℤ) → ltZ a b ≡ false → b ≤ℤ a
-at-most a b e = ltZ-no {a = a} {b = b} (subst (λ t. T (not t)) (sym e) tt)
-
-not-below : (a b c : ℤ) → b ≤ℤ c → c ≤ℤ a → ltZ a b ≡ false
-not-below a b c h k = refuted (ltZ a b) (λ t. clashℤ (<ℤ-≤ℤ-trans (ltZ-yes {a = a} {b = b} t) h) k)
-
 -- every number of a field of sort s is from l to h
 abbrev Inside : Sort → ℤ → ℤ → Type 0
-Inside s l h = T (leZ l (rangeOf s .low)) × T (leZ (rangeOf s .high) h)
+Inside s l h = (leZ l (rangeOf s .low) ≡ true) × (leZ (rangeOf s .high) h ≡ true)
 
 wider : (s : Sort) (l h z : ℤ) → Inside s l h → beyond (rangeOf s) (Number z) ≡ false → (ltZ z l ≡ false) × (ltZ h z ≡ false)
 wider s l h z w e =
-    let r = rangeOf s in
-    let b = neither (ltZ z (r .low)) (ltZ (r .high) z) e in
-    (not-below z l (r .low) (leZ-yes (w .0)) (at-most z _ (b .0)), not-below h z (r .high) (at-most _ z (b .1)) (leZ-yes (w .1)))
+    let b = neither (ltZ z (rangeOf s .low)) (ltZ (rangeOf s .high) z) e in
+    (omega zarith, omega zarith)
 
 -- ---- a field by its rule
 
@@ -121,7 +111,7 @@ module _ (s : Sort) where
 -- a reference to an item of kind k, needed or not
 module _ (k : Kind) where
   item-again : (c : Content) → Meets (rule.Needed (sort.Reference k)) c → number (byteOf c) ≡ field c
-  item-again = cut-again (sort.Reference k) 255 (tt, tt)
+  item-again = cut-again (sort.Reference k) 255 (refl, refl)
 
   reference-again : (b : Bool) (c : Content) → Meets (neededIf b (sort.Reference k)) c → reference (refOf c) ≡ field c
   reference-again b Blank m = refl
@@ -140,7 +130,7 @@ term-again a b Blank (Number z) p q m n = absurd (true≢false (rw (p refl) at m
 term-again a b Blank Bad p q m n = absurd (true≢false (n .spelled))
 term-again a b (Number y) Blank p q m n = absurd (true≢false (rw (q refl) at n .full))
 term-again a b (Number y) (Number z) p q m n =
-    λ i. short-again sort.Coefficient (tt, tt) (Number y) (needed a _ y m) i ∷ item-again kind.Sentence (Number z) (needed b _ z n) i ∷ []
+    λ i. short-again sort.Coefficient (refl, refl) (Number y) (needed a _ y m) i ∷ item-again kind.Sentence (Number z) (needed b _ z n) i ∷ []
 term-again a b (Number y) Bad p q m n = absurd (true≢false (n .spelled))
 term-again a b Bad e p q m n = absurd (true≢false (m .spelled))
 
@@ -161,11 +151,11 @@ mark-again x y z Blank Blank Bad m n o = absurd (true≢false (o .spelled))
 mark-again x y z Blank (Number d) e m n o = absurd (true≢false (m .full))
 mark-again x y z Blank Bad e m n o = absurd (true≢false (n .spelled))
 mark-again x y z (Number c) Blank e m n o =
-    let p = cut-again sort.LoopLength 255 (tt, tt) (Number c) (needed (isNumber e) _ c m) in
+    let p = cut-again sort.LoopLength 255 (refl, refl) (Number c) (needed (isNumber e) _ c m) in
     λ i. x ∷ y ∷ z ∷ p i ∷ blank ∷ item-again kind.Move e o i ∷ blank ∷ blank ∷ []
 mark-again x y z (Number c) (Number d) e m n o =
-    let p = cut-again sort.LoopLength 255 (tt, tt) (Number c) m in
-    let q = natural-again sort.Rounds 1000000 (tt, tt) (Number d) (needed false _ d n) .0 in
+    let p = cut-again sort.LoopLength 255 (refl, refl) (Number c) m in
+    let q = natural-again sort.Rounds 1000000 (refl, refl) (Number d) (needed false _ d n) .0 in
     λ i. x ∷ y ∷ z ∷ p i ∷ q i ∷ item-again kind.Move e o i ∷ blank ∷ blank ∷ []
 mark-again x y z (Number c) Bad e m n o = absurd (true≢false (n .spelled))
 mark-again x y z Bad d e m n o = absurd (true≢false (m .spelled))
@@ -184,19 +174,19 @@ module _ (c2 c3 c4 c5 c6 c7 c8 : Content) where
   state-again : (c1 : Content) → Again kind.State (row c1)
   unfolding ruleAt shapeOf rowOf stateOf
   state-again c1 f =
-      λ i. cut-again sort.Propositions 65535 (tt, tt) c1 (met f 0 (lit< tt)) i ∷ blanks (drop 1 (row c1)) (λ j h. met f (suc j) (omega arith)) i
+      λ i. cut-again sort.Propositions 65535 (refl, refl) c1 (met f 0 (lit< tt)) i ∷ blanks (drop 1 (row c1)) (λ j h. met f (suc j) (omega arith)) i
 
   guard-again : (c1 : Content) → Again kind.Guard (row c1)
   unfolding ruleAt shapeOf rowOf guardOf perCounter
   guard-again c1 f =
-      let p = counters-again sort.Coefficient (tt, tt) c1 c2 c3 c4 (met f 0 (lit< tt)) (met f 1 (lit< tt)) (met f 2 (lit< tt)) (met f 3 (lit< tt)) in
+      let p = counters-again sort.Coefficient (refl, refl) c1 c2 c3 c4 (met f 0 (lit< tt)) (met f 1 (lit< tt)) (met f 2 (lit< tt)) (met f 3 (lit< tt)) in
       let q = blanks (drop 5 (row c1)) (λ j h. met f (suc (suc (suc (suc (suc j))))) (omega arith)) in
       λ i. p i ++ (integer-again sort.Bound c5 (met f 4 (lit< tt)) i ∷ q i)
 
   move-again : (c1 : Content) → Again kind.Move (row c1)
   unfolding ruleAt shapeOf rowOf moveOf perCounter
   move-again c1 f =
-      let p = counters-again sort.Update (tt, tt) c3 c4 c5 c6 (met f 2 (lit< tt)) (met f 3 (lit< tt)) (met f 4 (lit< tt)) (met f 5 (lit< tt)) in
+      let p = counters-again sort.Update (refl, refl) c3 c4 c5 c6 (met f 2 (lit< tt)) (met f 3 (lit< tt)) (met f 4 (lit< tt)) (met f 5 (lit< tt)) in
       let q = reference-again kind.Guard (isNumber c8) c7 (met f 6 (lit< tt)) in
       let t = reference-again kind.Guard false c8 (met f 7 (lit< tt)) in
       λ i. item-again kind.State c1 (met f 0 (lit< tt)) i ∷ item-again kind.State c2 (met f 1 (lit< tt)) i ∷ (p i ++ (q i ∷ t i ∷ []))
@@ -205,7 +195,7 @@ module _ (c2 c3 c4 c5 c6 c7 c8 : Content) where
   unfolding ruleAt shapeOf rowOf placeOf
   place-again c1 f =
       let p = reference-again kind.Move false c2 (met f 1 (lit< tt)) in
-      let q = natural-again sort.Marks 1048575 (tt, tt) c3 (met f 2 (lit< tt)) .0 in
+      let q = natural-again sort.Marks 1048575 (refl, refl) c3 (met f 2 (lit< tt)) .0 in
       let t = blanks (drop 6 (row c1)) (λ j h. met f (suc (suc (suc (suc (suc (suc j)))))) (omega arith)) in
       mark-again _ _ _ c4 c5 c6 (met f 3 (lit< tt)) (met f 4 (lit< tt)) (met f 5 (lit< tt))
       ∙ (λ i. item-again kind.State c1 (met f 0 (lit< tt)) i ∷ p i ∷ q i ∷ field c4 ∷ field c5 ∷ field c6 ∷ t i)
@@ -221,16 +211,16 @@ module _ (c2 c3 c4 c5 c6 c7 c8 : Content) where
   unfolding ruleAt shapeOf rowOf sentenceOf formOf
   sentence-again Blank f = absurd (true≢false (f .full 0 (lit< tt)))
   sentence-again (Number (pos zero)) f = λ i. number 0 ∷ blanks (drop 1 (row c2)) (λ j h. met f (suc j) (omega arith)) i
-  sentence-again (Number (pos (suc zero))) f = part-again sort.Proposition (tt, tt) _ (met f 1 (lit< tt)) (λ j h. met f (suc (suc j)) (omega arith))
+  sentence-again (Number (pos (suc zero))) f = part-again sort.Proposition (refl, refl) _ (met f 1 (lit< tt)) (λ j h. met f (suc (suc j)) (omega arith))
   sentence-again (Number (pos (suc (suc zero)))) f =
-      part-again (sort.Reference kind.Guard) (tt, tt) _ (met f 1 (lit< tt)) (λ j h. met f (suc (suc j)) (omega arith))
+      part-again (sort.Reference kind.Guard) (refl, refl) _ (met f 1 (lit< tt)) (λ j h. met f (suc (suc j)) (omega arith))
   sentence-again (Number (pos (suc (suc (suc zero))))) f =
       let p = blanks (drop 3 (row c2)) (λ j h. met f (suc (suc (suc j))) (omega arith)) in
       λ i. number 3 ∷ item-again kind.Sentence c2 (met f 1 (lit< tt)) i ∷ item-again kind.Sentence c3 (met f 2 (lit< tt)) i ∷ p i
   sentence-again (Number (pos (suc (suc (suc (suc zero)))))) f =
-      part-again (sort.Reference kind.Sentence) (tt, tt) _ (met f 1 (lit< tt)) (λ j h. met f (suc (suc j)) (omega arith))
+      part-again (sort.Reference kind.Sentence) (refl, refl) _ (met f 1 (lit< tt)) (λ j h. met f (suc (suc j)) (omega arith))
   sentence-again (Number (pos (suc (suc (suc (suc (suc zero))))))) f =
-      part-again (sort.Reference kind.Sentence) (tt, tt) _ (met f 1 (lit< tt)) (λ j h. met f (suc (suc j)) (omega arith))
+      part-again (sort.Reference kind.Sentence) (refl, refl) _ (met f 1 (lit< tt)) (λ j h. met f (suc (suc j)) (omega arith))
   sentence-again (Number (pos (suc (suc (suc (suc (suc (suc zero)))))))) f =
       let a = isNumber c7 || isNumber c8 in
       let p = term-again (isNumber c6 || a) (isNumber c5 || a) c5 c6 (λ e. rw e) (λ e. rw e) (met f 4 (lit< tt)) (met f 5 (lit< tt)) in
@@ -238,7 +228,7 @@ module _ (c2 c3 c4 c5 c6 c7 c8 : Content) where
       let t = integer-again sort.Bound c4 (met f 3 (lit< tt)) in
       λ i. padded (number 6 ∷ item-again kind.Sentence c2 (met f 1 (lit< tt)) i ∷ item-again kind.Sentence c3 (met f 2 (lit< tt)) i ∷ t i ∷ (p i ++ q i))
   sentence-again (Number (pos (suc (suc (suc (suc (suc (suc (suc n))))))))) f =
-      let h = natural-again sort.Form 6 (tt, tt) _ (met f 0 (lit< tt)) in
+      let h = natural-again sort.Form 6 (refl, refl) _ (met f 0 (lit< tt)) in
       absurd (omega (arith, h .1))
   sentence-again (Number (negsuc n)) f = absurd (true≢false (f .ranged 0 (lit< tt)))
   sentence-again Bad f = absurd (true≢false (f .spelled 0 (lit< tt)))

@@ -1,5 +1,4 @@
 -- The case that a file spells, read off its bytes alone: cut into records, each field read by the spelling rule; row k of a kind is its item k.
-use mathlib.Core.Path.{_≡_}
 use mathlib.Core.List.{List, [], _∷_, map}
 use mathlib.Core.Bool.{cond}
 use Prim.Native.Nat.{ℕ, _+_}

@@ -8,31 +8,28 @@ use native.Mathlib.Nat.{le-refl}
 use native.Mathlib.Omega.{arith}
 use lib.Dec.{eqb, leb, ltb, lit≤, eqb·suc-zero}
 use lib.ListN.{length, getD}
-use borrow.Author.Tests.{ltb-true, lt-ltb, eqb-true, eqb-false}
+use borrow.Author.Tests.{ltb-true, lt-ltb}
 use Rattle.integer.specs.Tests.{Tells, cond-by, tells-lt, tells-le, tells-and, tells-or}
 use Rattle.record.specs.Layout.{recordLength, recordOf}
 use Rattle.kinds.specs.declared.Kind.{Kind}
 use Rattle.kinds.specs.declared.Kind.the-variants.{State, Guard, Move, Sentence, Place}
-use Rattle.kinds.specs.declared.Letter.{Letter}
-use Rattle.kinds.specs.declared.Letter.the-variants.{Names, Unknown}
 use Rattle.kinds.specs.declared.Shape.{Shape}
-use Rattle.kinds.specs.Kinds.{rankOf, kindOf, countOf}
+use Rattle.kinds.specs.Kinds.{rankOf, countOf}
 use Rattle.kinds.specs.Table.{shapeOf, ruleAt, natural, isNumber, isBlank}
 use Rattle.faults.specs.declared.Fault.the-variants as fault
 use Rattle.faults.specs.declared.Answer.{Answer}
 use Rattle.faults.specs.declared.Answer.the-variants.{Taken, NotARecord, NoLineFeed, NoSuchKind, Misspelled, Misfilled, OutOfRange, OutOfOrder, NoRoom, NotThere, Misplaced, WrongWayIn}
-use Rattle.faults.specs.declared.Look.{Look}
 use Rattle.faults.specs.Answers.{numberOf, fieldOf}
-use Rattle.faults.specs.Look.{lineFeed, wrongForm, rangeAnswer, extraAnswer, missingAnswer, formAnswer, fieldsAnswer, unread, readAs, endedLook, lookOf}
+use Rattle.faults.specs.Input.{lineFeed, wrongForm, rangeAnswer, extraAnswer, missingAnswer, formAnswer, fieldsAnswer}
 use Rattle.plan.specs.declared.Loops.{Loops}
 use Rattle.plan.specs.declared.Case.{Case}
 use Rattle.plan.specs.Cases.{Items, listOf, itemsOf, roomOf, noLoops}
-use Rattle.plan.specs.Taking.{isClosed, isOpen, isLong, wayAnswer, markAnswer, placeAnswer, layoutAnswer, thereAnswer, roomAnswer, lastRank, orderAnswer, isTaken, answerOf, takenBy, takenOf}
+use Rattle.plan.specs.Taking.{isClosed, isOpen, isLong, wayAnswer, markAnswer, placeAnswer, layoutAnswer, thereAnswer, roomAnswer, lastRank, orderAnswer, isTaken, answerOf, takenAs, takenBy, takenOf}
 use Rattle.rules.specs.Rules.{IsA, contentAt, IsMissing, IsExtra, IsOutside, IsNotThere, HasForm, Lowest, countsOf, Closed, Open, Applies, IsFirst}
 use Rattle.rules.specs.Sound.{Sound, loopsFrom}
 use Rattle.rules.specs.Held.{counts-are}
 use Rattle.rules.specs.Loops.{closed-is, open-is}
-use Rattle.rules.specs.Letters.{Reads, reads, one-kind, unnamed}
+use Rattle.rules.specs.Letters.{one-kind, by-head}
 use Rattle.rules.specs.Stages.{Nowhere, no-lowest, numbered, known, Passed, Ends, renumbered, start, more, first, refuses, tested, fault-tested}
 
 -- a record's shape, if it is of kind k
@@ -210,47 +207,35 @@ module _ (x : Items) (bs : List ℕ) (l : Loops)
 
   -- ---- the whole
 
-  -- the answer to a record, by what its bytes say
-  abbrev Answered : Look → Type 0
-  Answered k = Ends x bs 27 (answerOf (countsOf x) l k)
-
-  refused-ends : (k : Look) → IsFirst x bs (k .answer) → Answered k
-  unfolding answerOf
-  refused-ends k h = rw (refuses x bs (k .answer) (h .applies)) (inr h)
-
-  kind-ends : (k : Kind) → IsA k bs → Passed x bs 14 → Answered (readAs (Names k) bs)
+  kind-ends : (k : Kind) → IsA k bs → Passed x bs 14 → Ends x bs 27 (answerOf (countsOf x) l k (recordOf bs))
   unfolding answerOf
   kind-ends k is p =
-      ⊎-elim (λ t. rw (t .0) (order-ends k is (t .1))) (refused-ends (readAs (Names k) bs)) (fields-end x bs k is p)
-
-  letter-ends : (m : Letter) → kindOf (getD bs 0 0) ≡ m → Reads (getD bs 0 0) m → Passed x bs 13 → Answered (readAs m bs)
-  letter-ends (Names k) e is p = kind-ends k is (more x bs 13 (λ f h. h k is) p)
-  letter-ends Unknown e is p = refused-ends (unread NoSuchKind) (first x bs NoSuchKind p (unnamed (getD bs 0 0) e))
-
-  ended-ends : Passed x bs 12 → Answered (endedLook bs)
-  unfolding endedLook
-  ended-ends p =
-      cond-by Answered (eqb (getD bs (recordLength - 1) 0) lineFeed) {x = readAs (kindOf (getD bs 0 0)) bs} {y = unread NoLineFeed}
-      (λ e. letter-ends (kindOf (getD bs 0 0)) refl (reads (getD bs 0 0)) (more x bs 12 (λ f h. h (eqb-true _ lineFeed e)) p))
-      (λ e. refused-ends (unread NoLineFeed) (first x bs NoLineFeed p (eqb-false _ lineFeed e)))
-
-  look-ends : Answered (lookOf bs)
-  unfolding lookOf
-  look-ends =
-      cond-by Answered (eqb (length bs) recordLength) {x = endedLook bs} {y = unread NotARecord}
-      (λ e. ended-ends (more x bs 11 (λ f h. h (eqb-true _ recordLength e)) (start x bs)))
-      (λ e. refused-ends (unread NotARecord) (first x bs NotARecord (start x bs) (eqb-false _ recordLength e)))
+      let own = fieldsAnswer (shaped k bs) (recordOf bs) in
+      ⊎-elim (λ t. rw (t .0) (order-ends k is (t .1))) (λ h. rw (refuses x bs own (h .applies)) (inr h)) (fields-end x bs k is p)
 
 -- no refusal applies and the record is taken, or it gets the first that applies
 pub answers-first : (c : Case) (bs : List ℕ) → Sound c →
     ((isTaken (takenOf c bs .answer) ≡ true) × ((a : Answer) → Applies (itemsOf c) bs a → ⊥)) ⊎ IsFirst (itemsOf c) bs (takenOf c bs .answer)
-unfolding takenOf takenBy
+unfolding takenOf takenAs
 answers-first c bs s =
-    let x : Items = itemsOf c in
-    let w : Ends x bs 27 (answerOf (c .count) (c .loops) (lookOf bs)) =
-    subst₂ (λ n l. Ends x bs 27 (answerOf n l (lookOf bs))) (sym (counts-are c s)) (sym (s .derived))
-    (look-ends x bs (loopsFrom noLoops 0 (x .places)) (closed-is x (s .loops)) (open-is x (s .loops))) in
-    ⊎-elim (λ t. inl (t .0, λ a. t .1 a (known a .below))) (λ h. inr h) w
+    ⊎-elim (λ t. inl (t .0, λ a. t .1 a (known a .below))) (λ h. inr h)
+    (by-head bs (λ h. Ends x bs 27 (takenBy c h bs .answer))
+    (λ e. inr (first x bs NotARecord (start x bs) e))
+    (λ w e. inr (first x bs NoLineFeed (whole w) e))
+    (λ w d e. inr (first x bs NoSuchKind (ended w d) e))
+    (λ w d k is.
+    subst₂ (λ n l. Ends x bs 27 (answerOf n l k (recordOf bs))) (sym (counts-are c s)) (sym (s .derived))
+    (kind-ends x bs (loopsFrom noLoops 0 (x .places)) (closed-is x (s .loops)) (open-is x (s .loops)) k is
+    (more x bs 13 (λ f h. h k is) (ended w d)))))
+  where
+    x : Items
+    x = itemsOf c
+
+    whole : length bs ≡ recordLength → Passed x bs 12
+    whole w = more x bs 11 (λ f h. h w) (start x bs)
+
+    ended : length bs ≡ recordLength → getD bs (recordLength - 1) 0 ≡ lineFeed → Passed x bs 13
+    ended w d = more x bs 12 (λ f h. h d) (whole w)
 
 -- ---- there is one first
 

@@ -10,33 +10,33 @@ use native.Mathlib.Omega.{arith}
 use lib.Dec.{eqb, leb, ltb}
 use lib.ListN.{length, take, set, replicate, getD, length-set}
 use lib.Seq.{length-take-le, take-suc-set, set-at, append-snoc}
-use borrow.Author.Tests.{ltb-false, leb-false, eqb-true}
+use borrow.Author.Tests.{ltb-false, leb-false}
 use Rattle.integer.specs.Lowest.{lowest, lowest-le, lowest-none}
+use Rattle.integer.specs.Tests.{cond-by}
 use Rattle.record.specs.declared.Field.{Field}
 use Rattle.record.specs.declared.Record.{Record}
-use Rattle.record.specs.Layout.{fields, at, recordLength, recordOf}
+use Rattle.record.specs.Layout.{fields, at, recordOf}
 use Rattle.kinds.specs.declared.Kind.{Kind}
 use Rattle.kinds.specs.declared.Kind.the-variants.{State, Guard, Move, Sentence, Place}
-use Rattle.kinds.specs.declared.Letter.{Letter}
-use Rattle.kinds.specs.declared.Letter.the-variants.{Names, Unknown}
 use Rattle.kinds.specs.declared.Counts.{Counts}
 use Rattle.kinds.specs.declared.Shape.{Shape}
-use Rattle.kinds.specs.Kinds.{countOf, letterOf, rankOf, kindOf}
+use Rattle.kinds.specs.Kinds.{countOf, letterOf, rankOf}
 use Rattle.kinds.specs.Table.{shapeOf, natural, isNumber, isBlank}
 use Rattle.faults.specs.declared.Fault.{Fault}
 use Rattle.faults.specs.declared.Fault.the-variants as fault
 use Rattle.faults.specs.declared.Answer.{Answer}
-use Rattle.faults.specs.declared.Answer.the-variants.{Taken, NotARecord, NoLineFeed, NoSuchKind, Misspelled, Misfilled, OutOfRange, OutOfOrder, NoRoom, NotThere, Misplaced, WrongWayIn}
-use Rattle.faults.specs.declared.Look.{Look}
+use Rattle.faults.specs.declared.Answer.the-variants.{Taken, Misspelled, Misfilled, OutOfRange, OutOfOrder, NoRoom, NotThere, Misplaced, WrongWayIn}
+use Rattle.faults.specs.declared.Head.{Head}
+use Rattle.faults.specs.declared.Head.the-variants.{Of, Refused}
 use Rattle.faults.specs.Faults.{faultAt, lowestFault}
-use Rattle.faults.specs.Look.{lineFeed, wrongForm, unread, readAs, lookOf, endedLook, fieldsAnswer, formAnswer, missingAnswer, extraAnswer, rangeAnswer}
+use Rattle.faults.specs.Input.{wrongForm, rangeAnswer, extraAnswer, missingAnswer, formAnswer, fieldsAnswer, headOf}
 use Rattle.items.specs.Items.{Item, itemOf}
 use Rattle.plan.specs.declared.Case.{Case}
 use Rattle.plan.specs.declared.Loops.{Loops}
 use Rattle.plan.specs.Cases.{listOf, itemsOf, roomOf, noItem, with, emptyCase}
-use Rattle.plan.specs.Taking.{isTaken, takenOf, takenBy, answerOf, lastRank, orderAnswer, roomAnswer, thereAnswer, layoutAnswer, placeAnswer, markAnswer, wayAnswer, isClosed, isOpen, isLong}
-use Rattle.rules.specs.Letters.{Reads, reads}
-use Rattle.rules.specs.Rules.{countsOf}
+use Rattle.plan.specs.Taking.{isTaken, takenOf, takenBy, takenAs, answerOf, lastRank, orderAnswer, roomAnswer, thereAnswer, layoutAnswer, placeAnswer, markAnswer, wayAnswer, isClosed, isOpen, isLong}
+use Rattle.rules.specs.Letters.{by-head}
+use Rattle.rules.specs.Rules.{IsA, countsOf}
 use Rattle.rules.specs.Sound.{Sound, Fit, There, arrayOf}
 
 -- the part of Sound that is about arrays and counts
@@ -229,21 +229,16 @@ empty-list Place = refl
 -- ---- a record that is refused
 
 -- it leaves the whole case as it was
+same-by : (c : Case) (bs : List ℕ) (h : Head) → isTaken (takenBy c h bs .answer) ≡ false → takenBy c h bs .case ≡ c
+unfolding takenAs
+same-by c bs (Of k) e = ap (λ t. cond t (with c k (itemOf k (recordOf bs .fields))) c) e
+same-by c bs (Refused a) e = refl
+
 pub refused-same : (c : Case) (bs : List ℕ) → isTaken (takenOf c bs .answer) ≡ false → takenOf c bs .case ≡ c
-unfolding takenOf takenBy
-refused-same c bs e =
-    let k = lookOf bs in
-    ap (λ t. cond t (with c (k .shape .kind) (itemOf (k .shape .kind) (k .row .fields))) c) e
+unfolding takenOf
+refused-same c bs e = same-by c bs (headOf bs) e
 
 -- ---- a record that is taken
-
--- no field of a record of kind k has a fault of its own
-pub record Clean (k : Kind) (r : Record) : Type 0 where
-  pub misspelled : lowestFault fault.Misspelled (shapeOf k r) r ≡ fields
-  pub form : wrongForm (shapeOf k r) r ≡ false
-  pub missing : lowestFault fault.Missing (shapeOf k r) r ≡ fields
-  pub extra : lowestFault fault.Extra (shapeOf k r) r ≡ fields
-  pub outside : lowestFault fault.OutOfRange (shapeOf k r) r ≡ fields
 
 -- a place may come as place n, where these loops are held
 pub record Placed (l : Loops) (n : ℕ) (r : List Field) : Type 0 where
@@ -253,73 +248,33 @@ pub record Placed (l : Loops) (n : ℕ) (r : List Field) : Type 0 where
 
 -- a record of kind k may come where so many items and these loops are held
 pub record Next (n : Counts) (l : Loops) (k : Kind) (r : Record) : Type 0 where
-  pub order : lastRank n ≤ rankOf k
   pub room : countOf n k < roomOf k
-  pub there : lowestFault (fault.NotThere n) (shapeOf k r) r ≡ fields
+  pub there : There n k (r .fields)
   pub place : k ≡ Place → Placed l (n .places) (r .fields)
 
--- the look at a record of kind k, with the answer a
-abbrev pub lookAs : Kind → List ℕ → Answer → Look
-lookAs k bs a = record { shape = shapeOf k (recordOf bs); row = recordOf bs; answer = a }
-
--- what follows from a record's being taken: its kind, what is read of it, its own fields, what is held, and the case after it
+-- what follows from a record's being taken: its kind, its own fields, what is held, and the case after it
 pub record IsTaken (c : Case) (bs : List ℕ) : Type 0 where
   pub kind : Kind
   pub letter : getD bs 0 0 ≡ letterOf kind
-  pub whole : length bs ≡ recordLength
-  pub ended : getD bs (recordLength - 1) 0 ≡ lineFeed
-  pub look : lookOf bs ≡ lookAs kind bs Taken
-  pub own : fieldsAnswer (shapeOf kind (recordOf bs)) (recordOf bs) ≡ Taken
-  pub clean : Clean kind (recordOf bs)
   pub fit : Fit kind (recordOf bs .fields)
-  pub held : orderAnswer (c .count) (c .loops) (shapeOf kind (recordOf bs)) (recordOf bs) ≡ Taken
   pub next : Next (c .count) (c .loops) kind (recordOf bs)
-  pub there : There (c .count) kind (recordOf bs .fields)
-  pub answer : takenOf c bs .answer ≡ Taken
   pub case : takenOf c bs .case ≡ with c kind (itemOf kind (recordOf bs .fields))
-
-differ : {P : Type 0} → false ≡ true → P
-differ e = absurd (true≢false (sym e))
-
--- an answer that takes is Taken
-pub taken-is : (a : Answer) → isTaken a ≡ true → a ≡ Taken
-taken-is Taken e = refl
-taken-is NotARecord e = differ e
-taken-is NoLineFeed e = differ e
-taken-is NoSuchKind e = differ e
-taken-is (Misspelled f) e = differ e
-taken-is (Misfilled f) e = differ e
-taken-is (OutOfRange f) e = differ e
-taken-is OutOfOrder e = differ e
-taken-is NoRoom e = differ e
-taken-is (NotThere f) e = differ e
-taken-is (Misplaced f) e = differ e
-taken-is WrongWayIn e = differ e
 
 -- a stage with one test and a refusal
 passed : (t : Bool) (a b : Answer) → isTaken a ≡ false → isTaken (cond t a b) ≡ true → (t ≡ false) × (isTaken b ≡ true)
-passed true a b r e = differ (sym r ∙ e)
+passed true a b r e = absurd (true≢false (sym e ∙ r))
 passed false a b r e = (refl, e)
 
--- a look, whose refusal is the other one
-passed-look : (t : Bool) (a b : Look) → isTaken (b .answer) ≡ false → isTaken (cond t a b .answer) ≡ true →
-    (t ≡ true) × (cond t a b ≡ a) × (isTaken (a .answer) ≡ true)
-passed-look true a b r e = (refl, refl, e)
-passed-look false a b r e = differ (sym r ∙ e)
-
 -- no field has a fault
-module _ (f : Fault) (s : Shape) (r : Record) where
-  none-found : ltb (lowestFault f s r) fields ≡ false → lowestFault f s r ≡ fields
-  unfolding lowestFault
-  none-found e = omega (arith, ltb-false (lowest fields 0 (faultAt f s r)) fields e, lowest-le (faultAt f s r) fields)
+none-has : (f : Fault) (s : Shape) (r : Record) → ltb (lowestFault f s r) fields ≡ false → (j : ℕ) → j < fields → faultAt f s r j ≡ false
+unfolding lowestFault
+none-has f s r e =
+    let t : ℕ → Bool = faultAt f s r in
+    lowest-none t fields (omega (arith, ltb-false (lowest fields 0 t) fields e, lowest-le t fields))
 
-  pub none-has : lowestFault f s r ≡ fields → (j : ℕ) → j < fields → faultAt f s r j ≡ false
-  unfolding lowestFault
-  none-has e = lowest-none (faultAt f s r) fields e
-
-pub clean-is : (k : Kind) (r : Record) → isTaken (fieldsAnswer (shapeOf k r) r) ≡ true → Clean k r
+fit-is : (k : Kind) (r : Record) → isTaken (fieldsAnswer (shapeOf k r) r) ≡ true → Fit k (r .fields)
 unfolding fieldsAnswer formAnswer missingAnswer extraAnswer rangeAnswer
-clean-is k r e =
+fit-is k r e =
     let s = shapeOf k r in
     let low : Fault → ℕ = λ f. lowestFault f s r in
     let p0 = passed (ltb (low fault.Misspelled) fields) (Misspelled (low fault.Misspelled + 1)) (formAnswer s r) refl e in
@@ -328,20 +283,10 @@ clean-is k r e =
     let p3 = passed (ltb (low fault.Extra) fields) (Misfilled (low fault.Extra + 1)) (rangeAnswer s r) refl (p2 .1) in
     let p4 = passed (ltb (low fault.OutOfRange) fields) (OutOfRange (low fault.OutOfRange + 1)) Taken refl (p3 .1) in
     record {
-      misspelled = none-found fault.Misspelled s r (p0 .0);
-      form = p1 .0;
-      missing = none-found fault.Missing s r (p2 .0);
-      extra = none-found fault.Extra s r (p3 .0);
-      outside = none-found fault.OutOfRange s r (p4 .0);
-    }
-
-pub clean-fit : (k : Kind) (r : Record) → Clean k r → Fit k (r .fields)
-clean-fit k r h =
-    record {
-      spelled = none-has fault.Misspelled (shapeOf k r) r (h .misspelled);
-      full = none-has fault.Missing (shapeOf k r) r (h .missing);
-      bare = none-has fault.Extra (shapeOf k r) r (h .extra);
-      ranged = none-has fault.OutOfRange (shapeOf k r) r (h .outside);
+      spelled = none-has fault.Misspelled s r (p0 .0);
+      full = none-has fault.Missing s r (p2 .0);
+      bare = none-has fault.Extra s r (p3 .0);
+      ranged = none-has fault.OutOfRange s r (p4 .0);
     }
 
 place-is : (l : Loops) (n : ℕ) (r : List Field) → isTaken (placeAnswer l n r) ≡ true → Placed l n r
@@ -352,7 +297,7 @@ place-is l n r e =
     let p2 = passed (cond (eqb n 0) (isNumber (at r 1)) (isBlank (at r 1))) WrongWayIn Taken refl (p1 .1) in
     record { before = p0 .0; mark = p1 .0; way = p2 .0 }
 
-pub next-is : (n : Counts) (l : Loops) (k : Kind) (r : Record) → isTaken (orderAnswer n l (shapeOf k r) r) ≡ true → Next n l k r
+next-is : (n : Counts) (l : Loops) (k : Kind) (r : Record) → isTaken (orderAnswer n l (shapeOf k r) r) ≡ true → Next n l k r
 unfolding orderAnswer roomAnswer thereAnswer shapeOf
 next-is n l k r e =
     let s = shapeOf k r in
@@ -361,61 +306,37 @@ next-is n l k r e =
     let p1 = passed (leb (roomOf k) (countOf n k)) NoRoom (thereAnswer n l s r) refl (p0 .1) in
     let p2 = passed (ltb m fields) (NotThere (m + 1)) (layoutAnswer k n l (r .fields)) refl (p1 .1) in
     record {
-      order = ltb-false (rankOf k) (lastRank n) (p0 .0);
       room = leb-false (roomOf k) (countOf n k) (p1 .0);
-      there = none-found (fault.NotThere n) s r (p2 .0);
+      there = none-has (fault.NotThere n) s r (p2 .0);
       place = λ i. place-is l (n .places) (r .fields) (subst (λ j. isTaken (layoutAnswer j n l (r .fields)) ≡ true) i (p2 .1));
     }
 
--- a look at a taken record takes
-look-takes : (n : Counts) (l : Loops) (k : Look) → isTaken (answerOf n l k) ≡ true → isTaken (k .answer) ≡ true
-unfolding answerOf
-look-takes n l k h = go (isTaken (k .answer)) refl h
-  where
-    go : (t : Bool) → isTaken (k .answer) ≡ t → isTaken (cond t (orderAnswer n l (k .shape) (k .row)) (k .answer)) ≡ true → isTaken (k .answer) ≡ true
-    go true e h = e
-    go false e h = h
+-- a taken record passes its own tests and those of the state
+both-take : (a b : Answer) → isTaken (cond (isTaken a) b a) ≡ true → (isTaken a ≡ true) × (isTaken b ≡ true)
+both-take a b =
+    cond-by (λ (q : Answer). isTaken q ≡ true → (isTaken a ≡ true) × (isTaken b ≡ true)) (isTaken a) {x = b} {y = a}
+    (λ e h. (e, h)) (λ e h. absurd (true≢false (sym h ∙ e)))
 
-module _ (c : Case) (bs : List ℕ) (h : isTaken (takenOf c bs .answer) ≡ true) where
-  order-takes : (k : Kind) → lookOf bs ≡ lookAs k bs Taken → isTaken (orderAnswer (c .count) (c .loops) (shapeOf k (recordOf bs)) (recordOf bs)) ≡ true
-  unfolding takenOf takenBy answerOf
-  order-takes k e = subst (λ q. isTaken (answerOf (c .count) (c .loops) q) ≡ true) e h
+module _ (c : Case) (bs : List ℕ) where
+  -- a head that is refused is not taken, and another has its kind's letter
+  abbrev Headed : Head → Type 0
+  Headed (Of k) = IsA k bs
+  Headed (Refused a) = isTaken a ≡ false
 
-  case-with : (k : Kind) → lookOf bs ≡ lookAs k bs Taken → takenOf c bs .case ≡ with c k (itemOf k (recordOf bs .fields))
-  unfolding takenOf takenBy answerOf shapeOf
-  case-with k e =
-      ap (λ q. takenBy c q .case) e
-      ∙ ap (λ t. cond t (with c k (itemOf k (recordOf bs .fields))) c) (order-takes k e)
-
-  taken-as : (l : Letter) → Reads (getD bs 0 0) l → length bs ≡ recordLength → getD bs (recordLength - 1) 0 ≡ lineFeed →
-      lookOf bs ≡ readAs l bs → isTaken (readAs l bs .answer) ≡ true → IsTaken c bs
-  taken-as Unknown r w d e t = differ t
-  taken-as (Names k) r w d e t =
-      let own = taken-is (fieldsAnswer (shapeOf k (recordOf bs)) (recordOf bs)) t in
-      let q : lookOf bs ≡ lookAs k bs Taken = e ∙ ap (lookAs k bs) own in
-      let o = order-takes k q in
-      let clean = clean-is k (recordOf bs) t in
-      let next = next-is (c .count) (c .loops) k (recordOf bs) o in
+  taken-by : (h : Head) → Headed h → headOf bs ≡ h → isTaken (takenBy c h bs .answer) ≡ true → IsTaken c bs
+  unfolding takenOf takenAs answerOf
+  taken-by (Refused a) r e t = absurd (true≢false (sym t ∙ r))
+  taken-by (Of k) r e t =
+      let s = shapeOf k (recordOf bs) in
+      let b = both-take (fieldsAnswer s (recordOf bs)) (orderAnswer (c .count) (c .loops) s (recordOf bs)) t in
       record {
         kind = k;
         letter = r;
-        whole = w;
-        ended = d;
-        look = q;
-        own = own;
-        clean = clean;
-        fit = clean-fit k (recordOf bs) clean;
-        held = taken-is (orderAnswer (c .count) (c .loops) (shapeOf k (recordOf bs)) (recordOf bs)) o;
-        next = next;
-        there = none-has (fault.NotThere (c .count)) (shapeOf k (recordOf bs)) (recordOf bs) (next .there);
-        answer = taken-is (takenOf c bs .answer) h;
-        case = case-with k q;
+        fit = fit-is k (recordOf bs) (b .0);
+        next = next-is (c .count) (c .loops) k (recordOf bs) (b .1);
+        case = ap (λ h. takenBy c h bs .case) e ∙ ap (λ q. cond q (with c k (itemOf k (recordOf bs .fields))) c) t;
       }
 
-  pub taken-with : IsTaken c bs
-  unfolding takenOf takenBy lookOf endedLook
-  taken-with =
-      let p0 = passed-look (eqb (length bs) recordLength) (endedLook bs) (unread NotARecord) refl (look-takes (c .count) (c .loops) (lookOf bs) h) in
-      let p1 = passed-look (eqb (getD bs (recordLength - 1) 0) lineFeed) (readAs (kindOf (getD bs 0 0)) bs) (unread NoLineFeed) refl (p0 .2) in
-      taken-as (kindOf (getD bs 0 0)) (reads (getD bs 0 0)) (eqb-true (length bs) recordLength (p0 .0))
-      (eqb-true (getD bs (recordLength - 1) 0) lineFeed (p1 .0)) (p0 .1 ∙ p1 .1) (p1 .2)
+  pub taken-with : isTaken (takenOf c bs .answer) ≡ true → IsTaken c bs
+  unfolding takenOf
+  taken-with = taken-by (headOf bs) (by-head bs Headed (λ e. refl) (λ w e. refl) (λ w d e. refl) (λ w d k is. is)) refl

@@ -16,7 +16,7 @@ use Rattle.integer.specs.Tests.{neither}
 use Rattle.record.specs.declared.Content.{Content}
 use Rattle.record.specs.declared.Content.the-variants as content
 use Rattle.record.specs.declared.Field.{Field}
-use Rattle.record.specs.Layout.{fields, at, recordOf}
+use Rattle.record.specs.Layout.{at, recordOf}
 use Rattle.kinds.specs.declared.Kind.{Kind}
 use Rattle.kinds.specs.declared.Kind.the-variants as kind
 use Rattle.kinds.specs.declared.Counts.{Counts}
@@ -275,7 +275,7 @@ taken-fits c bs t =
     record {
       room = t .next .room;
       fit = subst (Fit k) e (t .fit);
-      there = subst (There (c .count) k) e (t .there);
+      there = subst (There (c .count) k) e (t .next .there);
       place = λ q. subst (Placed (c .loops) (c .count .places)) e (t .next .place q);
     }
 

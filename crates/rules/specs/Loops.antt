@@ -1,6 +1,6 @@
 -- What the loops kept beside the places say of them: the last loop, whether the endless one has closed, whether one is open;
 -- and that a place that passes the tests leaves the loops apart. Assumes nothing.
-use mathlib.Core.Path.{_≡_, refl, _∙_, sym, ap, ap₂, subst₂}
+use mathlib.Core.Path.{_≡_, refl, _∙_, sym, ap, ap₂}
 use mathlib.Core.Logic.{_↔_, _⊎_, inl, inr}
 use mathlib.Core.List.{List, [], _∷_, _++_}
 use mathlib.Core.Bool.{Bool, true, false, _&&_, true≢false}
@@ -16,12 +16,10 @@ use Rattle.items.specs.declared.LoopMark.{LoopMark}
 use Rattle.items.specs.declared.LoopMark.the-variants as mark
 use Rattle.items.specs.declared.Place.{Place}
 use Rattle.plan.specs.declared.Loops.{Loops}
-use Rattle.plan.specs.declared.Case.{Case}
-use Rattle.plan.specs.Cases.{Items, itemsOf, roomOf, noItem, noLoops, loopsAfter}
+use Rattle.plan.specs.Cases.{Items, roomOf, noItem, noLoops, loopsAfter}
 use Rattle.plan.specs.Taking.{isClosed, isOpen}
 use Rattle.rules.specs.Rules.{markAt, lengthOf, isEndless, endAt, Closed, Open}
-use Rattle.rules.specs.Sound.{Sound, LoopsApart, loopsFrom}
-use Rattle.rules.specs.Held.{counted}
+use Rattle.rules.specs.Sound.{LoopsApart, loopsFrom}
 
 pub loops-snoc : (l : Loops) (n : ℕ) (ps : List Place) (p : Place) →
     loopsFrom l n (ps ++ (p ∷ [])) ≡ loopsAfter (loopsFrom l n ps) (n + length ps) (p .mark)
@@ -164,15 +162,6 @@ module _ (x : Items) (a : LoopsApart (x .places)) where
         record { first = r .0; begun = r .1; more = omega (arith, h, r .2) },
     λ o. tells-open ps a (o .first) (o .begun) (o .more),
   )
-
--- of a sound case
-pub closed-held : (c : Case) → Sound c → (isClosed (c .loops) (c .count .places) ≡ true) ↔ Closed (itemsOf c)
-closed-held c s =
-    subst₂ (λ l n. (isClosed l n ≡ true) ↔ Closed (itemsOf c)) (sym (s .derived)) (counted c s kind.Place) (closed-is (itemsOf c) (s .loops))
-
-pub open-held : (c : Case) → Sound c → (isOpen (c .loops) (c .count .places) ≡ true) ↔ Open (itemsOf c)
-open-held c s =
-    subst₂ (λ l n. (isOpen l n ≡ true) ↔ Open (itemsOf c)) (sym (s .derived)) (counted c s kind.Place) (open-is (itemsOf c) (s .loops))
 
 -- ---- one place more
 

@@ -7,7 +7,6 @@ use mathlib.Core.Bool.{Bool, true, false}
 use Prim.Native.Nat.{ℕ, _+_, _-_, _≤_, _<_}
 use lib.ListN.{length, getD}
 use Rattle.record.specs.declared.Content.{Content}
-use Rattle.record.specs.declared.Field.{Field}
 use Rattle.record.specs.Layout.{recordLength, recordOf, at}
 use Rattle.kinds.specs.declared.Kind.{Kind}
 use Rattle.kinds.specs.declared.Kind.the-variants as kind
@@ -19,7 +18,7 @@ use Rattle.faults.specs.declared.Answer.{Answer}
 use Rattle.faults.specs.declared.Answer.the-variants.{Taken, NotARecord, NoLineFeed, NoSuchKind, Misspelled, Misfilled, OutOfRange, OutOfOrder, NoRoom, NotThere, Misplaced, WrongWayIn}
 use Rattle.faults.specs.Faults.{misspelled, missing, extra, outside, notThere}
 use Rattle.faults.specs.Answers.{numberOf}
-use Rattle.faults.specs.Look.{lineFeed, wrongForm}
+use Rattle.faults.specs.Input.{lineFeed, wrongForm}
 use Rattle.items.specs.declared.LoopMark.{LoopMark}
 use Rattle.items.specs.declared.LoopMark.the-variants as mark
 use Rattle.items.specs.declared.Place.{Place}

@@ -2,7 +2,7 @@
 use mathlib.Core.Path.{_≡_}
 use mathlib.Core.Logic.{_↔_}
 use mathlib.Core.List.{List, [], _∷_, _++_}
-use mathlib.Core.Bool.{Bool, true, false}
+use mathlib.Core.Bool.{true, false}
 use Prim.Native.Nat.{ℕ, _+_, _-_, _≤_, _<_}
 use lib.ListN.{length, getD, replicate}
 use Rattle.record.specs.declared.Field.{Field}
@@ -20,7 +20,7 @@ use Rattle.items.specs.declared.Place.{Place}
 use Rattle.items.specs.Items.{Item, rowOf}
 use Rattle.plan.specs.declared.Loops.{Loops}
 use Rattle.plan.specs.declared.Case.{Case}
-use Rattle.plan.specs.Cases.{Items, listOf, itemsOf, roomOf, noItem, noLoops, loopsAfter}
+use Rattle.plan.specs.Cases.{listOf, itemsOf, roomOf, noItem, noLoops, loopsAfter}
 use Rattle.rules.specs.Rules.{markAt, isEndless, endAt}
 
 -- the shape of a row of fields

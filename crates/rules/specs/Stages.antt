@@ -1,14 +1,14 @@
 -- How an answer is shown to be the first that applies: its refusals are passed one number after another, each by its test. Assumes nothing.
 use mathlib.Core.Path.{_≡_, refl, _∙_, sym, ap, subst}
-use mathlib.Core.Logic.{_↔_, _⊎_, inl, inr, ⊎-elim}
+use mathlib.Core.Logic.{_⊎_, inr, ⊎-elim}
 use mathlib.Core.List.{List}
-use mathlib.Core.Bool.{Bool, true, false, cond, _&&_, _||_, true≢false, false≢true}
+use mathlib.Core.Bool.{Bool, true, false, cond, true≢false}
 use Prim.Native.Nat.{ℕ, zero, suc, _+_, _-_, _≤_, _<_}
 use native.Mathlib.Nat.{eq-or-lt-of-le, le-of-suc-le-suc}
 use native.Mathlib.Omega.{arith}
-use lib.Dec.{eqb, leb, ltb, lit<, lit≤}
+use lib.Dec.{eqb, ltb, lit<, lit≤}
 use lib.ListN.{length, List·getD-eq-default}
-use borrow.Author.Tests.{ltb-true, ltb-false, lt-ltb, leb-true, le-leb, eqb-true, ne-eqb}
+use borrow.Author.Tests.{ltb-true, ltb-false, lt-ltb, ne-eqb}
 use Rattle.integer.specs.Lowest.{lowest, lowest-le, lowest-holds, lowest-before, lowest-none}
 use Rattle.integer.specs.Tab.{length-tab}
 use Rattle.integer.specs.Tests.{cond-by, Tells, tells-not}
@@ -17,12 +17,9 @@ use Rattle.record.specs.declared.Field.{Field}
 use Rattle.record.specs.Layout.{fields, fieldAt, recordOf, at}
 use Rattle.kinds.specs.declared.Kind.{Kind}
 use Rattle.kinds.specs.declared.Kind.the-variants.{State, Guard, Move, Sentence, Place}
-use Rattle.kinds.specs.declared.Letter.{Letter}
-use Rattle.kinds.specs.declared.Letter.the-variants.{Names, Unknown}
 use Rattle.kinds.specs.declared.Rule.{Rule}
 use Rattle.kinds.specs.declared.Rule.the-variants as rule
 use Rattle.kinds.specs.declared.Shape.{Shape}
-use Rattle.kinds.specs.Kinds.{letterOf, kindOf}
 use Rattle.kinds.specs.Table.{rowOf, ruleAt, counters, inFilled}
 use Rattle.faults.specs.declared.Fault.{Fault}
 use Rattle.faults.specs.declared.Fault.the-variants as fault
@@ -30,7 +27,7 @@ use Rattle.faults.specs.declared.Answer.{Answer}
 use Rattle.faults.specs.declared.Answer.the-variants.{Taken, NotARecord, NoLineFeed, NoSuchKind, Misspelled, Misfilled, OutOfRange, OutOfOrder, NoRoom, NotThere, Misplaced, WrongWayIn}
 use Rattle.faults.specs.Answers.{numberOf, fieldOf}
 use Rattle.faults.specs.Faults.{hasFault, faultAt, lowestFault}
-use Rattle.faults.specs.Look.{orElse}
+use Rattle.faults.specs.Input.{orElse}
 use Rattle.plan.specs.Cases.{Items}
 use Rattle.plan.specs.Taking.{isTaken}
 use Rattle.rules.specs.Rules.{Lowest, Applies, IsFirst}
@@ -83,7 +80,6 @@ blank-fault fault.Missing = refl
 blank-fault fault.Extra = refl
 blank-fault fault.OutOfRange = refl
 blank-fault (fault.NotThere n) = refl
-blank-fault fault.Any = refl
 
 past-fault : (f : Fault) (s : Shape) (bs : List ℕ) (k : ℕ) → fields ≤ k → faultAt f s (recordOf bs) k ≡ false
 unfolding ruleAt recordOf

@@ -1,9 +1,9 @@
 -- What is proved of taking records: start here. The rules are in Rules.antt, the invariant in Sound.antt, the case that a file spells in
 -- Files.antt; `takenOf` and `runOf`, with which the code's promises are equations, in the crate plan. Assumes nothing.
-use mathlib.Core.Path.{_≡_, refl, _∙_, sym, ap, subst}
+use mathlib.Core.Path.{_≡_, refl, _∙_, ap}
 use mathlib.Core.Logic.{_⊎_}
 use mathlib.Core.List.{List, [], _∷_, _++_}
-use mathlib.Core.Bool.{Bool, true, false, cond}
+use mathlib.Core.Bool.{true, false}
 use Prim.Native.Nat.{ℕ, _+_}
 use Rattle.integer.specs.Tests.{cond-by}
 use Rattle.record.specs.Layout.{recordOf}

@@ -27,12 +27,6 @@ enum-told-4 c = search needs
 is-outside-requires : tie.Need-is-outside-requires
 is-outside-requires c κs = search needs
 
-enum-told-5 : tie.Need-enum-told-5
-enum-told-5 c = search needs
-
-has-any-fault-requires : tie.Need-has-any-fault-requires
-has-any-fault-requires c κs = search needs
-
 enum-known-fault : tie.Need-enum-known-fault
 enum-known-fault c = search needs
 
@@ -52,10 +46,7 @@ returns-4 : tie.Need-returns-4
 returns-4 c = simp (c .before .enum-told4 .given .1) (c .is-outside .ensures)
 
 returns-5 : tie.Need-returns-5
-returns-5 c = simp (c .before .enum-told5 .given .1) (c .has-any-fault .ensures)
-
-returns-6 : tie.Need-returns-6
-returns-6 c = simp (c .before .before .fault .given .1) (c .is-not-there .ensures)
+returns-5 c = simp (c .before .before .fault .given .1) (c .is-not-there .ensures)
 
 pub has-fault-spec : {M : Type 1} → statement M
 has-fault-spec =
@@ -69,13 +60,10 @@ has-fault-spec =
     is-extra-requires
     enum-told-4
     is-outside-requires
-    enum-told-5
-    has-any-fault-requires
     enum-known-fault
     is-not-there-requires
     returns
     returns-2
     returns-3
     returns-4
-    returns-5
-    returns-6)
+    returns-5)

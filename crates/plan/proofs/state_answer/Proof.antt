@@ -3,6 +3,7 @@ use mathlib.Core.Path.{_≡_, _∙_, sym}
 use native.Mathlib.Omega.{arith}
 use borrow.Author.Tests.{lt-ltb, le-ltb, le-leb, lt-leb}
 use Rattle.kinds.specs.Kinds.{rankOf, countOf}
+use Rattle.kinds.specs.Table.{shapeOf}
 use Rattle.plan.specs.Cases.{roomOf}
 use Rattle.plan.specs.Taking.{lastRank, thereAnswer, roomAnswer, orderAnswer}
 use borrow.Author.Needs.{needs}
@@ -10,17 +11,17 @@ use Rattle.plan.proofs.state_answer.Statement.{statement}
 use Rattle.plan.proofs.state_answer.Tie as tie
 
 -- the answer past each test
-past1 : (c : tie.Else1) → let a = c .before .before .before .args in orderAnswer (a .count) (a .loops) (a .shape) (a .row) ≡ roomAnswer (a .count) (a .loops) (a .shape) (a .row)
-unfolding orderAnswer
+past1 : (c : tie.Else1) → let a = c .before .before .before .args in let s = shapeOf (a .kind) (a .row) in orderAnswer (a .count) (a .loops) s (a .row) ≡ roomAnswer (a .count) (a .loops) s (a .row)
+unfolding orderAnswer shapeOf
 past1 c =
     let a = c .before .before .before .args in
-    simp (le-ltb (rankOf (a .shape .kind)) (lastRank (a .count)) (omega arith))
+    simp (le-ltb (rankOf (a .kind)) (lastRank (a .count)) (omega arith))
 
-past2 : (c : tie.Else2) → let a = c .before .before .before .before .before .before .args in orderAnswer (a .count) (a .loops) (a .shape) (a .row) ≡ thereAnswer (a .count) (a .loops) (a .shape) (a .row)
-unfolding roomAnswer
+past2 : (c : tie.Else2) → let a = c .before .before .before .before .before .before .args in let s = shapeOf (a .kind) (a .row) in orderAnswer (a .count) (a .loops) s (a .row) ≡ thereAnswer (a .count) (a .loops) s (a .row)
+unfolding roomAnswer shapeOf
 past2 c =
     let a = c .before .before .before .before .before .before .args in
-    past1 (c .before .before .before) ∙ simp (lt-leb (roomOf (a .shape .kind)) (countOf (a .count) (a .shape .kind)) (omega arith))
+    past1 (c .before .before .before) ∙ simp (lt-leb (roomOf (a .kind)) (countOf (a .count) (a .kind)) (omega arith))
 
 rank-requires : tie.Need-rank-requires
 rank-requires c κs = search needs
@@ -29,10 +30,10 @@ last-rank-requires : tie.Need-last-rank-requires
 last-rank-requires c κs = search needs
 
 returns : tie.Need-returns
-unfolding orderAnswer
+unfolding orderAnswer shapeOf
 returns c =
     let a = c .before .before .before .args in
-    simp (lt-ltb (rankOf (a .shape .kind)) (lastRank (a .count)) (omega arith))
+    simp (lt-ltb (rankOf (a .kind)) (lastRank (a .count)) (omega arith))
 
 room-of-requires : tie.Need-room-of-requires
 room-of-requires c κs = search needs
@@ -41,32 +42,29 @@ of-requires : tie.Need-of-requires
 of-requires c κs = search needs
 
 returns-2 : tie.Need-returns-2
-unfolding roomAnswer
+unfolding roomAnswer shapeOf
 returns-2 c =
     let a = c .before .before .before .before .before .before .args in
-    sym (past1 (c .before .before .before) ∙ simp (le-leb (roomOf (a .shape .kind)) (countOf (a .count) (a .shape .kind)) (omega arith)))
+    sym (past1 (c .before .before .before) ∙ simp (le-leb (roomOf (a .kind)) (countOf (a .count) (a .kind)) (omega arith)))
 
-lowest-fault-requires : tie.Need-lowest-fault-requires
-lowest-fault-requires c κs = search needs
+add-t9 : tie.Need-add-t9
+add-t9 c = search needs
 
-add-t11 : tie.Need-add-t11
-add-t11 c = search needs
-
-cast-t12 : tie.Need-cast-t12
-cast-t12 c = search needs
+cast-t10 : tie.Need-cast-t10
+cast-t10 c = search needs
 
 returns-3 : tie.Need-returns-3
 unfolding thereAnswer
-returns-3 c = sym (past2 (c .before .before) ∙ simp (sym (c .before .lowest-fault .ensures), lt-ltb _ _ (c .if3 .taken)))
+returns-3 c = sym (past2 (c .before) ∙ simp (sym (c .before .before .before .before .before .before .before .pre), lt-ltb _ _ (c .if3 .taken)))
 
 layout-answer-requires : tie.Need-layout-answer-requires
 layout-answer-requires c κs = search needs
 
 returns-4 : tie.Need-returns-4
-unfolding thereAnswer
+unfolding thereAnswer shapeOf
 returns-4 c =
     c .layout-answer .ensures
-    ∙ sym (past2 (c .before .before .before) ∙ simp (sym (c .before .before .lowest-fault .ensures), le-ltb _ _ (c .before .if3 .left)))
+    ∙ sym (past2 (c .before .before) ∙ simp (sym (c .before .before .before .before .before .before .before .before .pre), le-ltb _ _ (c .before .if3 .left)))
 
 pub state-answer-spec : {M : Type 1} → statement M
 state-answer-spec =
@@ -78,9 +76,8 @@ state-answer-spec =
     room-of-requires
     of-requires
     returns-2
-    lowest-fault-requires
-    add-t11
-    cast-t12
+    add-t9
+    cast-t10
     returns-3
     layout-answer-requires
     returns-4)

@@ -1,26 +1,23 @@
--- What the bytes of a record say, and the results that come from the input (11 to 16), each stage named.
+-- The results that come from the input (11 to 16), each stage named: 11 to 13 by the head of a record, 14 to 16 by its fields.
 use mathlib.Core.List.{List}
-use mathlib.Core.Bool.{Bool, true, false, cond}
+use mathlib.Core.Bool.{Bool, false, cond}
 use Prim.Native.Nat.{ℕ, _+_, _-_}
 use lib.Dec.{eqb, ltb}
-use lib.ListN.{length, getD, replicate}
-use Rattle.record.specs.declared.Content.the-variants as content
+use lib.ListN.{length, getD}
 use Rattle.record.specs.declared.Record.{Record}
-use Rattle.record.specs.Layout.{fields, at, recordLength, recordOf}
-use Rattle.kinds.specs.declared.Kind.{Kind}
+use Rattle.record.specs.Layout.{fields, at, recordLength}
 use Rattle.kinds.specs.declared.Kind.the-variants.{State, Guard, Move, Sentence, Place}
 use Rattle.kinds.specs.declared.Letter.{Letter}
 use Rattle.kinds.specs.declared.Letter.the-variants.{Names, Unknown}
 use Rattle.kinds.specs.declared.Rule.the-variants as rule
 use Rattle.kinds.specs.declared.Sort.the-variants as sort
-use Rattle.faults.specs.declared.Fault.{Fault}
 use Rattle.faults.specs.declared.Fault.the-variants as fault
 use Rattle.kinds.specs.declared.Shape.{Shape}
-use Rattle.faults.specs.declared.Look.{Look}
+use Rattle.faults.specs.declared.Head.{Head}
+use Rattle.faults.specs.declared.Head.the-variants.{Of, Refused}
 use Rattle.faults.specs.declared.Answer.{Answer}
 use Rattle.faults.specs.declared.Answer.the-variants as answer
 use Rattle.kinds.specs.Kinds.{kindOf}
-use Rattle.kinds.specs.Table.{shapeOf}
 use Rattle.faults.specs.Faults.{outside, lowestFault}
 
 abbrev pub lineFeed : ℕ
@@ -59,26 +56,15 @@ formAnswer s r = cond (wrongForm s r) (answer.OutOfRange 1) (missingAnswer s r)
 unfoldable pub fieldsAnswer : Shape → Record → Answer
 fieldsAnswer s r = orElse (lowestFault fault.Misspelled s r) answer.Misspelled (formAnswer s r)
 
--- a record of which no field is read
-abbrev pub unread : Answer → Look
-unread a =
-    record {
-      shape = record { kind = State; form = 0; filled = record { at = replicate fields false } };
-      row = record { fields = replicate fields (record { content = content.Blank }) };
-      answer = a;
-    }
-
 -- 13
-abbrev pub readAs : Letter → List ℕ → Look
-readAs (Names k) bs =
-    record { shape = shapeOf k (recordOf bs); row = recordOf bs; answer = fieldsAnswer (shapeOf k (recordOf bs)) (recordOf bs) }
-readAs Unknown bs = unread answer.NoSuchKind
+abbrev pub namedHead : Letter → Head
+namedHead (Names k) = Of k
+namedHead Unknown = Refused answer.NoSuchKind
 
 -- 12
-unfoldable pub endedLook : List ℕ → Look
-endedLook bs =
-    cond (eqb (getD bs (recordLength - 1) 0) lineFeed) (readAs (kindOf (getD bs 0 0)) bs) (unread answer.NoLineFeed)
+unfoldable pub endedHead : List ℕ → Head
+endedHead bs = cond (eqb (getD bs (recordLength - 1) 0) lineFeed) (namedHead (kindOf (getD bs 0 0))) (Refused answer.NoLineFeed)
 
 -- 11
-unfoldable pub lookOf : List ℕ → Look
-lookOf bs = cond (eqb (length bs) recordLength) (endedLook bs) (unread answer.NotARecord)
+unfoldable pub headOf : List ℕ → Head
+headOf bs = cond (eqb (length bs) recordLength) (endedHead bs) (Refused answer.NotARecord)
