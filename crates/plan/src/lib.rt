@@ -242,7 +242,20 @@ fn state_answer(count: Counts, loops: Loops, kind: Kind, row: Record, absent: us
     layout_answer(count, loops, kind, row)
 }
 
-// The answer to a record of this kind. The first test settles a record whose fields are right in one pass.
+// The answer to a record of this kind, by the order of the tests.
+fn ordered_answer(count: Counts, loops: Loops, kind: Kind, row: Record) -> Answer
+    ensures { λ r. ⌜ r ≡ answerOf count loops kind row ⌝ }
+{
+    let shape = kinds::shape_of(kind, row);
+    let answer = faults::fields_answer(shape, row);
+    if is_taken(answer) {
+        let absent = faults::lowest_fault(Fault::NotThere(count), shape, row);
+        return state_answer(count, loops, kind, row, absent);
+    }
+    answer
+}
+
+// The same; one pass settles a record whose fields are right.
 fn answer_of(count: Counts, loops: Loops, kind: Kind, row: Record) -> Answer
     ensures { λ r. ⌜ r ≡ answerOf count loops kind row ⌝ }
 {
@@ -250,12 +263,7 @@ fn answer_of(count: Counts, loops: Loops, kind: Kind, row: Record) -> Answer
     if faults::fits(count, shape, row) {
         return state_answer(count, loops, kind, row, Record::FIELDS);
     }
-    let answer = faults::fields_answer(shape, row);
-    if is_taken(answer) {
-        let absent = faults::lowest_fault(Fault::NotThere(count), shape, row);
-        return state_answer(count, loops, kind, row, absent);
-    }
-    answer
+    ordered_answer(count, loops, kind, row)
 }
 
 impl Case {
