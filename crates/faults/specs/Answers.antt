@@ -3,32 +3,30 @@ use Prim.Native.Nat.{ℕ}
 use Rattle.faults.specs.declared.Answer.{Answer}
 use Rattle.faults.specs.declared.Answer.the-variants.{Taken, NotARecord, NoLineFeed, NoSuchKind, Misspelled, Misfilled, OutOfRange, OutOfOrder, NoRoom, NotThere, Misplaced, WrongWayIn}
 
--- the result
-abbrev pub numberOf : Answer → ℕ
-numberOf Taken = 0
-numberOf NotARecord = 11
-numberOf NoLineFeed = 12
-numberOf NoSuchKind = 13
-numberOf (Misspelled f) = 14
-numberOf (Misfilled f) = 15
-numberOf (OutOfRange f) = 16
-numberOf OutOfOrder = 21
-numberOf NoRoom = 22
-numberOf (NotThere f) = 23
-numberOf (Misplaced f) = 25
-numberOf WrongWayIn = 26
+-- the result, and the field, counted from 1; 0 where none is named
+pub record Told : Type 0 where
+  pub result : ℕ
+  pub field : ℕ
 
--- the field, counted from 1; 0 where none is named
+abbrev tell : ℕ → ℕ → Told
+tell n f = record { result = n; field = f }
+
+abbrev pub told : Answer → Told
+told Taken = tell 0 0
+told NotARecord = tell 11 0
+told NoLineFeed = tell 12 0
+told NoSuchKind = tell 13 0
+told (Misspelled f) = tell 14 f
+told (Misfilled f) = tell 15 f
+told (OutOfRange f) = tell 16 f
+told OutOfOrder = tell 21 0
+told NoRoom = tell 22 0
+told (NotThere f) = tell 23 f
+told (Misplaced f) = tell 25 f
+told WrongWayIn = tell 26 2
+
+abbrev pub numberOf : Answer → ℕ
+numberOf a = told a .result
+
 abbrev pub fieldOf : Answer → ℕ
-fieldOf Taken = 0
-fieldOf NotARecord = 0
-fieldOf NoLineFeed = 0
-fieldOf NoSuchKind = 0
-fieldOf (Misspelled f) = f
-fieldOf (Misfilled f) = f
-fieldOf (OutOfRange f) = f
-fieldOf OutOfOrder = 0
-fieldOf NoRoom = 0
-fieldOf (NotThere f) = f
-fieldOf (Misplaced f) = f
-fieldOf WrongWayIn = 2
+fieldOf a = told a .field

@@ -1,10 +1,10 @@
 -- The items of a case: what a record's fields become, and the fields of an item again.
 use mathlib.Core.List.{List, [], _∷_, _++_, map}
 use mathlib.Core.Bool.{cond}
-use Prim.Native.Nat.{ℕ, zero, suc, _+_, _-_, _%_}
+use Prim.Native.Nat.{ℕ, _+_, _-_, _%_}
 use lib.IntN.{ℤ, pos, negsuc}
 use lib.Signed.{ltZ}
-use lib.ListN.{length, replicate}
+use lib.ListN.{length, replicate, getD}
 use Rattle.integer.specs.Tab.{tab}
 use Rattle.record.specs.declared.Content.{Content}
 use Rattle.record.specs.declared.Content.the-variants.{Blank, Number, Bad}
@@ -84,17 +84,20 @@ moveOf r =
       guard2 = refOf (at r (3 + counters));
     }
 
--- the sentence of a form
+-- the sentences of the forms 0 to 6, and the sentence of a form
+abbrev pub formsOf : List Field → List Form
+formsOf r =
+    form.True
+    ∷ form.Proposition (byteOf (at r 1))
+    ∷ form.Guard (byteOf (at r 1))
+    ∷ form.And (byteOf (at r 1)) (byteOf (at r 2))
+    ∷ form.Not (byteOf (at r 1))
+    ∷ form.Next (byteOf (at r 1))
+    ∷ form.Until (byteOf (at r 1)) (byteOf (at r 2)) (integerOf (at r 3)) (termOf (at r 4) (at r 5)) (termOf (at r 6) (at r 7))
+    ∷ []
+
 unfoldable pub formOf : ℕ → List Field → Form
-formOf zero r = form.True
-formOf (suc zero) r = form.Proposition (byteOf (at r 1))
-formOf (suc (suc zero)) r = form.Guard (byteOf (at r 1))
-formOf (suc (suc (suc zero))) r = form.And (byteOf (at r 1)) (byteOf (at r 2))
-formOf (suc (suc (suc (suc zero)))) r = form.Not (byteOf (at r 1))
-formOf (suc (suc (suc (suc (suc zero))))) r = form.Next (byteOf (at r 1))
-formOf (suc (suc (suc (suc (suc (suc zero)))))) r =
-    form.Until (byteOf (at r 1)) (byteOf (at r 2)) (integerOf (at r 3)) (termOf (at r 4) (at r 5)) (termOf (at r 6) (at r 7))
-formOf (suc (suc (suc (suc (suc (suc (suc n))))))) r = form.True
+formOf f r = getD (formsOf r) f form.True
 
 unfoldable pub sentenceOf : List Field → Sentence
 sentenceOf r = record { form = formOf (natural (at r 0)) r }

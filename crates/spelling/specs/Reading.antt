@@ -22,9 +22,9 @@ use Rattle.spelling.specs.Digits.{numeral-length, leading-one, reads-num
 -- a number of the range fills at most a field
 pub token-length : (z : ℤ) → Spellable z → length (token z) ≤ width
 unfolding token
-token-length (pos n) h = numeral-length width 6 n h
+token-length (pos n) h = numeral-length width (width - 1) n h
 token-length (negsuc n) h =
-    let l : length (numeral width (suc n)) ≤ 6 = numeral-length width 5 (suc n) h in
+    let l : length (numeral width (suc n)) ≤ width - 1 = numeral-length width (width - 2) (suc n) h in
     omega arith
 
 -- spaces before a number change nothing
