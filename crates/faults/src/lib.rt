@@ -46,6 +46,7 @@ pub enum Head {
     Refused(Answer),
 }
 
+// Neither blank nor a number.
 fn is_misspelled(content: Content) -> bool
     ensures { λ r. ⌜ r ≡ misspelled content ⌝ }
 {
@@ -161,6 +162,7 @@ fn is_dangling(counts: Counts, sort: Sort, content: Content) -> bool
     }
 }
 
+// A number whose rule says that it refers to something, and it is not there.
 fn is_not_there(counts: Counts, rule: Rule, content: Content) -> bool
     ensures { λ r. ⌜ r ≡ notThere counts rule content ⌝ }
 {
@@ -171,6 +173,7 @@ fn is_not_there(counts: Counts, rule: Rule, content: Content) -> bool
     }
 }
 
+// Whether a field that says `content` has this fault.
 fn has_fault(fault: Fault, rule: Rule, content: Content) -> bool
     ensures { λ r. ⌜ r ≡ hasFault fault rule content ⌝ }
 {

@@ -77,12 +77,14 @@ pub struct Place {
     pub mark: LoopMark,
 }
 
+// The number of a field, cut to 8 bits.
 fn byte_of(content: Content) -> u8
     ensures { λ r. ⌜ r ≡ byteOf content ⌝ }
 {
     (kinds::natural_of(content) % 256) as u8
 }
 
+// The number of a field, and 0 of any other.
 fn integer_of(content: Content) -> i32
     ensures { λ r. ⌜ r ≡ integerOf content ⌝ }
 {
@@ -124,6 +126,7 @@ fn per_counter(row: Record, from: usize) -> PerCounter
     PerCounter { at: each }
 }
 
+// A reference, none where the field is blank.
 fn ref_of(content: Content) -> Ref
     ensures { λ r. ⌜ r ≡ refOf content ⌝ }
 {
@@ -134,6 +137,7 @@ fn ref_of(content: Content) -> Ref
     }
 }
 
+// A term, of its coefficient and its sentence.
 fn term_of(coefficient: Content, sentence: Content) -> Term
     ensures { λ r. ⌜ r ≡ termOf coefficient sentence ⌝ }
 {
@@ -157,7 +161,7 @@ pub fn content_at(row: Record, k: usize) -> Content
     field.content
 }
 
-// The item that a record of each kind becomes.
+// A state: its propositions.
 pub fn state_of(row: Record) -> State
     ensures { λ r. ⌜ r ≡ stateOf (row .fields) ⌝ }
 {
@@ -166,6 +170,7 @@ pub fn state_of(row: Record) -> State
     }
 }
 
+// A guard: a coefficient for each counter, then the bound.
 pub fn guard_of(row: Record) -> Guard
     ensures { λ r. ⌜ r ≡ guardOf (row .fields) ⌝ }
 {
@@ -176,6 +181,7 @@ pub fn guard_of(row: Record) -> Guard
     }
 }
 
+// A move: from, to, an update for each counter, two guards.
 pub fn move_of(row: Record) -> Move
     ensures { λ r. ⌜ r ≡ moveOf (row .fields) ⌝ }
 {
@@ -191,6 +197,7 @@ pub fn move_of(row: Record) -> Move
     }
 }
 
+// An until: held sentence, goal, bound, two terms.
 fn until_of(row: Record) -> Form
     ensures { λ r. ⌜ r ≡ formOf 6 (row .fields) ⌝ }
 {
@@ -205,6 +212,7 @@ fn until_of(row: Record) -> Form
     }
 }
 
+// The sentence of a form.
 fn form_of(form: u32, row: Record) -> Form
     ensures { λ r. ⌜ r ≡ formOf form (row .fields) ⌝ }
 {
@@ -220,6 +228,7 @@ fn form_of(form: u32, row: Record) -> Form
     }
 }
 
+// A sentence: its form, and what the form asks for.
 pub fn sentence_of(row: Record) -> Sentence
     ensures { λ r. ⌜ r ≡ sentenceOf (row .fields) ⌝ }
 {
@@ -227,6 +236,7 @@ pub fn sentence_of(row: Record) -> Sentence
     Sentence { form: form }
 }
 
+// A loop mark, of its length, its rounds and its back move.
 fn mark_of(length: Content, rounds: Content, back: Content) -> LoopMark
     ensures { λ r. ⌜ r ≡ markOf length rounds back ⌝ }
 {
@@ -248,6 +258,7 @@ fn mark_of(length: Content, rounds: Content, back: Content) -> LoopMark
     }
 }
 
+// A place: its state, the move into it, its marks, its loop mark.
 pub fn place_of(row: Record) -> Place
     ensures { λ r. ⌜ r ≡ placeOf (row .fields) ⌝ }
 {

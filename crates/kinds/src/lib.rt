@@ -130,6 +130,7 @@ pub fn range_of(sort: Sort) -> Range
     }
 }
 
+// The numbers from low to high.
 fn between(low: i32, high: i32) -> Range
     ensures { λ r. ⌜ r ≡ record { low = low; high = high } ⌝ }
 {
@@ -195,13 +196,14 @@ fn needed_if(needed: bool, sort: Sort) -> Rule
     }
 }
 
+// Whether one of two is true.
 fn any(a: bool, b: bool) -> bool
     ensures { λ r. ⌜ r ≡ (a || b) ⌝ }
 {
     if a { true } else { b }
 }
 
-// The rule of field k, counted from 0, of each kind.
+// The rules of each kind, for field k, counted from 0. A state: its propositions.
 fn state_rule(k: usize) -> Rule
     ensures { λ r. ⌜ r ≡ getD stateRow k rule.Blank ⌝ }
 {
@@ -212,6 +214,7 @@ fn state_rule(k: usize) -> Rule
     }
 }
 
+// A guard: a coefficient for each counter, then the bound.
 fn guard_rule(k: usize) -> Rule
     ensures { λ r. ⌜ r ≡ getD (guardRow counters) k rule.Blank ⌝ }
 {
@@ -224,6 +227,7 @@ fn guard_rule(k: usize) -> Rule
     Rule::Blank
 }
 
+// A move: from, to, an update for each counter, two guards, the second only with the first.
 fn move_rule(filled: Filled, k: usize) -> Rule
     ensures { λ r. ⌜ r ≡ getD (moveRow counters (inFilled filled)) k rule.Blank ⌝ }
 {
@@ -256,6 +260,7 @@ fn parts_rule(n: usize, sort: Sort, k: usize) -> Rule
     Rule::Blank
 }
 
+// An until: held sentence, goal, bound, up to two terms, each filled or blank as a pair.
 fn until_rule(filled: Filled, k: usize) -> Rule
     ensures { λ r. ⌜ r ≡ getD (sentenceRow 6 (inFilled filled)) k rule.Blank ⌝ }
 {
@@ -270,6 +275,7 @@ fn until_rule(filled: Filled, k: usize) -> Rule
     }
 }
 
+// A sentence: its form, then what the form asks for.
 fn sentence_rule(form: u32, filled: Filled, k: usize) -> Rule
     ensures { λ r. ⌜ r ≡ getD (sentenceRow form (inFilled filled)) k rule.Blank ⌝ }
 {
@@ -284,6 +290,7 @@ fn sentence_rule(form: u32, filled: Filled, k: usize) -> Rule
     }
 }
 
+// A place: its state, the move into it, its marks, and a loop mark of length, rounds and back move.
 fn place_rule(filled: Filled, k: usize) -> Rule
     ensures { λ r. ⌜ r ≡ getD (placeRow (inFilled filled)) k rule.Blank ⌝ }
 {

@@ -9,7 +9,7 @@ ghost use Rattle.kinds.specs.Kinds.{rankOf, countOf};
 ghost use Rattle.kinds.specs.Table.{natural, isNumber, shapeOf};
 ghost use Rattle.faults.specs.declared.Fault.the-variants as fault;
 ghost use Rattle.faults.specs.Faults.{lowestFault};
-ghost use Rattle.plan.specs.Cases.{emptyCase, roomOf, loopsAfter};
+ghost use Rattle.plan.specs.Cases.{emptyCase, noItem, roomOf, loopsAfter};
 ghost use Rattle.plan.specs.Taking.{isClosed, isOpen, isLong, isTaken, refusalOf, lastRank, wayAnswer, placeAnswer, layoutAnswer, orderAnswer, answerOf, takenOf, runOf};
 use faults::Answer;
 use faults::Fault;
@@ -60,6 +60,7 @@ pub struct Run {
     pub taken: usize,
 }
 
+// Whether an answer says that the record is taken.
 fn is_taken(answer: Answer) -> bool
     ensures { λ r. ⌜ r ≡ isTaken answer ⌝ }
 {
@@ -266,6 +267,43 @@ fn answer_of(count: Counts, loops: Loops, kind: Kind, row: Record) -> Answer
     ordered_answer(count, loops, kind, row)
 }
 
+// What stands where no guard, no move and no place is held yet.
+fn no_guard() -> Guard
+    ensures { λ r. ⌜ r ≡ noItem kind.Guard ⌝ }
+{
+    Guard {
+        coefficients: PerCounter {
+            at: [0i16; PerCounter::COUNT],
+        },
+        bound: 0,
+    }
+}
+
+fn no_move() -> Move
+    ensures { λ r. ⌜ r ≡ noItem kind.Move ⌝ }
+{
+    Move {
+        from: 0,
+        to: 0,
+        updates: PerCounter {
+            at: [0i16; PerCounter::COUNT],
+        },
+        guard1: Ref::None,
+        guard2: Ref::None,
+    }
+}
+
+fn no_place() -> Place
+    ensures { λ r. ⌜ r ≡ noItem kind.Place ⌝ }
+{
+    Place {
+        state: 0,
+        way: Ref::None,
+        marks: 0,
+        mark: LoopMark::None,
+    }
+}
+
 impl Case {
     // How many items of each kind a case has room for.
     pub const STATES: usize = 32;
@@ -278,6 +316,7 @@ impl Case {
 
     pub const PLACES: usize = 64;
 
+    // The case that holds nothing.
     pub fn empty() -> Case
         ensures { λ r. ⌜ r ≡ emptyCase ⌝ }
     {
@@ -292,33 +331,11 @@ impl Case {
             end: PlaceNo(0),
             endless: false,
         };
-        let zeros = PerCounter {
-            at: [0i16; PerCounter::COUNT],
-        };
-        let state = State { propositions: 0 };
-        let guard = Guard {
-            coefficients: zeros,
-            bound: 0,
-        };
-        let step = Move {
-            from: 0,
-            to: 0,
-            updates: zeros,
-            guard1: Ref::None,
-            guard2: Ref::None,
-        };
-        let sentence = Sentence { form: Form::True };
-        let place = Place {
-            state: 0,
-            way: Ref::None,
-            marks: 0,
-            mark: LoopMark::None,
-        };
-        let states = [state; Case::STATES];
-        let guards = [guard; Case::GUARDS];
-        let moves = [step; Case::MOVES];
-        let sentences = [sentence; Case::SENTENCES];
-        let places = [place; Case::PLACES];
+        let states = [State { propositions: 0 }; Case::STATES];
+        let guards = [no_guard(); Case::GUARDS];
+        let moves = [no_move(); Case::MOVES];
+        let sentences = [Sentence { form: Form::True }; Case::SENTENCES];
+        let places = [no_place(); Case::PLACES];
         Case {
             count: count,
             loops: loops,

@@ -7,6 +7,7 @@ ghost use Rattle.testing.specs.Held.{marksAt};
 use plan::Case;
 use plan::Run;
 
+// Takes a file into the empty case.
 fn taken(src: &[u8]) -> Run
     ensures { λ r. ⌜ r ≡ runOf emptyCase (now (src .entry)) ⌝ }
 {
