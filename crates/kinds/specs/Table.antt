@@ -3,6 +3,7 @@
 use mathlib.Core.List.{List, [], _∷_, _++_}
 use mathlib.Core.Bool.{Bool, true, false, _||_}
 use Prim.Native.Nat.{ℕ, _+_, _-_}
+use lib.Dec.{eqb}
 use lib.IntN.{ℤ, pos, negsuc, negℤ}
 use lib.ListN.{replicate, getD}
 use Rattle.integer.specs.Tab.{tab}
@@ -107,16 +108,19 @@ rangeOf LoopLength = between (pos 1) (pos 64)
 rangeOf Rounds = between (pos 1) (pos 1000000)
 rangeOf (Reference k) = between (pos 0) (pos 63)
 
--- whether a field is blank, and whether it is filled
+-- whether a field is blank, and whether it is filled, as a number too
 abbrev pub isBlank : Content → Bool
 isBlank Blank = true
 isBlank (Number z) = false
 isBlank Bad = false
 
+abbrev pub flagOf : Content → ℕ
+flagOf Blank = 0
+flagOf (Number z) = 1
+flagOf Bad = 0
+
 abbrev pub isNumber : Content → Bool
-isNumber Blank = false
-isNumber (Number z) = true
-isNumber Bad = false
+isNumber c = eqb (flagOf c) 1
 
 -- the number of a field that is 0 or more, and 0 of any other
 abbrev pub natural : Content → ℕ
@@ -131,12 +135,12 @@ shapeOf k r =
     record {
       kind = k;
       form = natural (at (r .fields) 0);
-      filled = record { at = tab fields 0 (λ (i : ℕ). isNumber (at (r .fields) i)) };
+      filled = record { at = tab fields 0 (λ (i : ℕ). flagOf (at (r .fields) i)) };
     }
 
 -- field n is filled, counted from 1
 abbrev pub inFilled : Filled → ℕ → Bool
-inFilled x n = getD (x .at) (n - 1) false
+inFilled x n = eqb (getD (x .at) (n - 1) 0) 1
 
 -- the rule of field k, counted from 0
 unfoldable pub ruleAt : Shape → ℕ → Rule

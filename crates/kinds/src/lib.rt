@@ -6,7 +6,7 @@ ghost use lib.ListN.{getD, replicate};
 ghost use Rattle.kinds.specs.declared.Rule.the-variants as rule;
 ghost use Rattle.kinds.specs.declared.Sort.the-variants.{Form};
 ghost use Rattle.kinds.specs.Kinds.{kindOf, countOf};
-ghost use Rattle.kinds.specs.Table.{neededIf, rangeOf, isNumber, natural, shapeOf, ruleAt, stateRow, guardRow, moveRow, sentenceRow, placeRow, counters, inFilled};
+ghost use Rattle.kinds.specs.Table.{neededIf, rangeOf, flagOf, isNumber, natural, shapeOf, ruleAt, stateRow, guardRow, moveRow, sentenceRow, placeRow, counters, inFilled};
 use record::Content;
 use record::Record;
 
@@ -52,9 +52,9 @@ pub struct Range {
     pub high: i32,
 }
 
-// Which fields are filled.
+// Which fields are filled: 1 for a field that is, 0 for any other. (Eight bools would be packed into one word, which costs more.)
 pub struct Filled {
-    pub at: [bool; Record::FIELDS],
+    pub at: [u32; Record::FIELDS],
 }
 
 // What decides the rules of a record's fields.
@@ -140,15 +140,22 @@ fn between(low: i32, high: i32) -> Range
     }
 }
 
+// 1 for a field that is filled, 0 for any other.
+fn flag_of(content: Content) -> u32
+    ensures { λ r. ⌜ r ≡ flagOf content ⌝ }
+{
+    match content {
+        Content::Blank => 0,
+        Content::Number(_) => 1,
+        Content::Bad => 0,
+    }
+}
+
 // Whether a field is filled.
 pub fn is_number(content: Content) -> bool
     ensures { λ r. ⌜ r ≡ isNumber content ⌝ }
 {
-    match content {
-        Content::Blank => false,
-        Content::Number(_) => true,
-        Content::Bad => false,
-    }
+    flag_of(content) == 1
 }
 
 // The number of a field that is 0 or more, and 0 of any other.
@@ -168,12 +175,12 @@ pub fn shape_of(kind: Kind, row: Record) -> Shape
 {
     let fields = row.fields;
     let first = fields[0];
-    let mut filled = [false; Record::FIELDS];
+    let mut filled = [0u32; Record::FIELDS];
     let mut k: usize = 0;
     while k < Record::FIELDS {
         let field = fields[k];
         let content = field.content;
-        filled[k] = is_number(content);
+        filled[k] = flag_of(content);
         k = k + 1;
     }
     let content = first.content;
@@ -239,7 +246,7 @@ fn move_rule(filled: Filled, k: usize) -> Rule
         return Rule::Needed(Sort::Update);
     }
     if k == 2 + PerCounter::COUNT {
-        return needed_if(x[3 + PerCounter::COUNT], Sort::Reference(Kind::Guard));
+        return needed_if(x[3 + PerCounter::COUNT] == 1, Sort::Reference(Kind::Guard));
     }
     if k == 3 + PerCounter::COUNT {
         return Rule::Optional(Sort::Reference(Kind::Guard));
@@ -267,10 +274,13 @@ fn until_rule(filled: Filled, k: usize) -> Rule
     let x = filled.at;
     match k {
         3 => Rule::Needed(Sort::Bound),
-        4 => needed_if(any(x[5], any(x[6], x[7])), Sort::Coefficient),
-        5 => needed_if(any(x[4], any(x[6], x[7])), Sort::Reference(Kind::Sentence)),
-        6 => needed_if(x[7], Sort::Coefficient),
-        7 => needed_if(x[6], Sort::Reference(Kind::Sentence)),
+        4 => needed_if(any(x[5] == 1, any(x[6] == 1, x[7] == 1)), Sort::Coefficient),
+        5 => needed_if(
+            any(x[4] == 1, any(x[6] == 1, x[7] == 1)),
+            Sort::Reference(Kind::Sentence),
+        ),
+        6 => needed_if(x[7] == 1, Sort::Coefficient),
+        7 => needed_if(x[6] == 1, Sort::Reference(Kind::Sentence)),
         _ => parts_rule(2, Sort::Reference(Kind::Sentence), k),
     }
 }
@@ -299,9 +309,9 @@ fn place_rule(filled: Filled, k: usize) -> Rule
         0 => Rule::Needed(Sort::Reference(Kind::State)),
         1 => Rule::Optional(Sort::Reference(Kind::Move)),
         2 => Rule::Needed(Sort::Marks),
-        3 => needed_if(any(x[4], x[5]), Sort::LoopLength),
+        3 => needed_if(any(x[4] == 1, x[5] == 1), Sort::LoopLength),
         4 => Rule::Optional(Sort::Rounds),
-        5 => needed_if(x[3], Sort::Reference(Kind::Move)),
+        5 => needed_if(x[3] == 1, Sort::Reference(Kind::Move)),
         _ => Rule::Blank,
     }
 }

@@ -27,6 +27,9 @@ add-if3 c = search needs
 add-needed-if : tie.Need-add-needed-if
 add-needed-if c = search needs
 
+mul-needed-if : tie.Need-mul-needed-if
+mul-needed-if c = search needs
+
 array-read-needed-if : tie.Need-array-read-needed-if
 array-read-needed-if c = search needs
 
@@ -56,6 +59,7 @@ move-rule-spec =
     returns-2
     add-if3
     add-needed-if
+    mul-needed-if
     array-read-needed-if
     needed-if-requires
     returns-3

@@ -5,12 +5,12 @@ use Prim.Native.Nat.{ℕ, _-_}
 use native.Mathlib.Omega.{arith}
 use Rattle.integer.specs.Tab.{Filled, fill-none, fill-more, fill-all}
 use Rattle.record.specs.Layout.{at}
-use Rattle.kinds.specs.Table.{isNumber, shapeOf}
+use Rattle.kinds.specs.Table.{flagOf, shapeOf}
 use Rattle.kinds.proofs.shape_of.Statement.{statement}
 use Rattle.kinds.proofs.shape_of.Tie as tie
 
 abbrev Inv-loop : tie.InvT-loop
-Inv-loop kind fields first filled₀ k₀ filled k = Filled (λ (i : ℕ). isNumber (at fields i)) 8 filled k
+Inv-loop kind fields first filled₀ k₀ filled k = Filled (λ (i : ℕ). flagOf (at fields i)) 8 filled k
 
 abbrev μ-loop : tie.MeasureT-loop
 μ-loop kind fields first filled₀ k₀ filled k = 8 - k
@@ -27,8 +27,11 @@ mul-field c = search needs
 array-copy-out-field : tie.Need-array-copy-out-field Inv-loop μ-loop
 array-copy-out-field c = search needs
 
-is-number-requires : tie.Need-is-number-requires Inv-loop μ-loop
-is-number-requires c κs = search needs
+flag-of-requires : tie.Need-flag-of-requires Inv-loop μ-loop
+flag-of-requires c κs = search needs
+
+mul-filled : tie.Need-mul-filled Inv-loop μ-loop
+mul-filled c = search needs
 
 array-write-filled : tie.Need-array-write-filled Inv-loop μ-loop
 array-write-filled c = search needs
@@ -42,7 +45,7 @@ loop-less c = search needs
 loop-again : tie.Need-loop-again Inv-loop μ-loop
 loop-again c =
     let l = c .before .before .before .loop in
-    rw (c .is-number .ensures) (fill-more _ 8 (l .filled) (l .k) (omega arith) (l .inv))
+    rw (c .flag-of .ensures) (fill-more _ 8 (l .filled) (l .k) (omega arith) (l .inv))
 
 natural-of-requires : tie.Need-natural-of-requires Inv-loop μ-loop
 natural-of-requires c κs = search needs
@@ -63,7 +66,8 @@ shape-of-spec =
     loop-holds
     mul-field
     array-copy-out-field
-    is-number-requires
+    flag-of-requires
+    mul-filled
     array-write-filled
     add-k
     loop-less
