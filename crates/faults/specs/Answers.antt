@@ -11,6 +11,7 @@ pub record Told : Type 0 where
 abbrev tell : ℕ → ℕ → Told
 tell n f = record { result = n; field = f }
 
+-- each answer's numbers
 abbrev pub told : Answer → Told
 told Taken = tell 0 0
 told NotARecord = tell 11 0
@@ -25,8 +26,10 @@ told (NotThere f) = tell 23 f
 told (Misplaced f) = tell 25 f
 told WrongWayIn = tell 26 2
 
+-- the result of an answer
 abbrev pub numberOf : Answer → ℕ
 numberOf a = told a .result
 
+-- the field of an answer
 abbrev pub fieldOf : Answer → ℕ
 fieldOf a = told a .field

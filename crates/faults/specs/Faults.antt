@@ -70,11 +70,13 @@ dangling n sort.Proposition c = false
 dangling n sort.LoopLength c = false
 dangling n sort.Rounds c = false
 
+-- a number whose rule says that it refers to something, and it is not there
 abbrev pub notThere : Counts → Rule → Content → Bool
 notThere n Blank c = false
 notThere n (Needed s) c = dangling n s c
 notThere n (Optional s) c = dangling n s c
 
+-- whether a field with this rule, which says c, has the fault
 abbrev pub hasFault : Fault → Rule → Content → Bool
 hasFault fault.Misspelled r c = misspelled c
 hasFault fault.Missing r c = missing r c

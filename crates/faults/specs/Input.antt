@@ -20,6 +20,7 @@ use Rattle.faults.specs.declared.Answer.the-variants as answer
 use Rattle.kinds.specs.Kinds.{kindOf}
 use Rattle.faults.specs.Faults.{outside, lowestFault}
 
+-- the last byte of a record
 abbrev pub lineFeed : ℕ
 lineFeed = 10
 
@@ -41,10 +42,11 @@ wrongForm s r = elim (s .kind) [
 unfoldable pub rangeAnswer : Shape → Record → Answer
 rangeAnswer s r = orElse (lowestFault fault.OutOfRange s r) answer.OutOfRange answer.Taken
 
--- 15: a needed field is blank, or else a field that must be blank is filled
+-- 15, or else: a field that must be blank is filled
 unfoldable pub extraAnswer : Shape → Record → Answer
 extraAnswer s r = orElse (lowestFault fault.Extra s r) answer.Misfilled (rangeAnswer s r)
 
+-- 15: a needed field is blank
 unfoldable pub missingAnswer : Shape → Record → Answer
 missingAnswer s r = orElse (lowestFault fault.Missing s r) answer.Misfilled (extraAnswer s r)
 

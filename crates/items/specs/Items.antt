@@ -38,12 +38,15 @@ Item kind.Place = Place
 
 -- ---- from fields to items. Each field is cut to the width at which it is kept; no number in its range is changed by that.
 
+-- the number of a field, cut to 8 bits
 abbrev pub byteOf : Content → ℕ
 byteOf c = natural c % 256
 
+-- the number of a field, cut to 16 bits
 abbrev pub wordOf : Content → ℕ
 wordOf c = natural c % 65536
 
+-- the number of a field, and 0 for any other
 abbrev pub integerOf : Content → ℤ
 integerOf Blank = pos 0
 integerOf (Number z) = z
@@ -57,6 +60,7 @@ shortOf z = cond (ltZ z (negsuc 32767)) (pos 0) (cond (ltZ (pos 32767) z) (pos 0
 unfoldable pub perCounter : List Field → ℕ → PerCounter
 perCounter r k = record { at = tab counters 0 (λ (j : ℕ). shortOf (integerOf (at r (k + j)))) }
 
+-- a reference, none where the field is blank
 abbrev pub refOf : Content → Ref
 refOf Blank = ref.None
 refOf (Number z) = ref.At (byteOf (Number z))
@@ -68,12 +72,15 @@ termOf Blank s = term.None
 termOf (Number z) s = term.Some (shortOf z) (byteOf s)
 termOf Bad s = term.None
 
+-- a state: its propositions
 unfoldable pub stateOf : List Field → State
 stateOf r = record { propositions = wordOf (at r 0) }
 
+-- a guard: a coefficient for each counter, then the bound
 unfoldable pub guardOf : List Field → Guard
 guardOf r = record { coefficients = perCounter r 0; bound = integerOf (at r counters) }
 
+-- a move: from, to, an update for each counter, two guards
 unfoldable pub moveOf : List Field → Move
 moveOf r =
     record {
@@ -84,7 +91,7 @@ moveOf r =
       guard2 = refOf (at r (3 + counters));
     }
 
--- the sentences of the forms 0 to 6, and the sentence of a form
+-- the sentences of the forms 0 to 6
 abbrev pub formsOf : List Field → List Form
 formsOf r =
     form.True
@@ -96,9 +103,11 @@ formsOf r =
     ∷ form.Until (byteOf (at r 1)) (byteOf (at r 2)) (integerOf (at r 3)) (termOf (at r 4) (at r 5)) (termOf (at r 6) (at r 7))
     ∷ []
 
+-- the sentence of form f
 unfoldable pub formOf : ℕ → List Field → Form
 formOf f r = getD (formsOf r) f form.True
 
+-- a sentence: its form, and what the form asks for
 unfoldable pub sentenceOf : List Field → Sentence
 sentenceOf r = record { form = formOf (natural (at r 0)) r }
 
@@ -110,6 +119,7 @@ markOf (Number z) (Number n) b = mark.Counted (byteOf (Number z)) (natural (Numb
 markOf (Number z) Bad b = mark.None
 markOf Bad n b = mark.None
 
+-- a place: its state, the move into it, its marks, its loop mark
 unfoldable pub placeOf : List Field → Place
 placeOf r =
     record { state = byteOf (at r 0); way = refOf (at r 1); marks = natural (at r 2); mark = markOf (at r 3) (at r 4) (at r 5) }
@@ -124,23 +134,29 @@ itemOf kind.Place r = placeOf r
 
 -- ---- from items to fields
 
+-- a field with the number z
 abbrev pub integer : ℤ → Field
 integer z = record { content = Number z }
 
+-- a field with the number n
 abbrev pub number : ℕ → Field
 number n = integer (pos n)
 
+-- a blank field
 abbrev pub blank : Field
 blank = record { content = Blank }
 
+-- the field of a reference
 abbrev pub reference : Ref → Field
 reference ref.None = blank
 reference (ref.At n) = number n
 
+-- the two fields of a term
 abbrev pub termFields : Term → List Field
 termFields term.None = blank ∷ blank ∷ []
 termFields (term.Some c s) = integer c ∷ number s ∷ []
 
+-- the fields of a sentence, its form first
 abbrev pub formFields : Form → List Field
 formFields form.True = number 0 ∷ []
 formFields (form.Proposition p) = number 1 ∷ number p ∷ []
@@ -150,6 +166,7 @@ formFields (form.Not a) = number 4 ∷ number a ∷ []
 formFields (form.Next a) = number 5 ∷ number a ∷ []
 formFields (form.Until a b z t u) = number 6 ∷ number a ∷ number b ∷ integer z ∷ (termFields t ++ termFields u)
 
+-- the fields of a loop mark
 abbrev pub markFields : LoopMark → List Field
 markFields mark.None = []
 markFields (mark.Counted l n b) = number l ∷ number n ∷ number b ∷ []

@@ -55,24 +55,29 @@ formRows x =
     ∷ untilParts x
     ∷ []
 
+-- the fields after form f; none for a form that is not there
 abbrev pub partsOf : ℕ → (ℕ → Bool) → List Rule
 partsOf f x = getD (formRows x) f []
 
--- the rows of the kinds, with n counters
+-- a state: its propositions
 abbrev pub stateRow : List Rule
 stateRow = Needed Propositions ∷ []
 
+-- a guard, with n counters: a coefficient for each, then the bound
 abbrev pub guardRow : ℕ → List Rule
 guardRow n = replicate n (Needed Coefficient) ++ (Needed Bound ∷ [])
 
+-- a move, with n counters: from and to, an update for each, two guards, the second only with the first
 abbrev pub moveRow : ℕ → (ℕ → Bool) → List Rule
 moveRow n x =
     let guards = neededIf (x (n + 4)) (Reference Guard) ∷ Optional (Reference Guard) ∷ [] in
     Needed (Reference State) ∷ Needed (Reference State) ∷ (replicate n (Needed Update) ++ guards)
 
+-- a sentence: its form, then what the form asks for
 abbrev pub sentenceRow : ℕ → (ℕ → Bool) → List Rule
 sentenceRow f x = Needed Form ∷ partsOf f x
 
+-- a place: its state, the move into it, its marks; then length, rounds and back move of a loop mark
 abbrev pub placeRow : (ℕ → Bool) → List Rule
 placeRow x =
     Needed (Reference State)
@@ -108,17 +113,19 @@ rangeOf LoopLength = between (pos 1) (pos 64)
 rangeOf Rounds = between (pos 1) (pos 1000000)
 rangeOf (Reference k) = between (pos 0) (pos 63)
 
--- whether a field is blank, and whether it is filled, as a number too
+-- whether a field is blank
 abbrev pub isBlank : Content → Bool
 isBlank Blank = true
 isBlank (Number z) = false
 isBlank Bad = false
 
+-- 1 for a field that is filled, 0 for any other
 abbrev pub flagOf : Content → ℕ
 flagOf Blank = 0
 flagOf (Number z) = 1
 flagOf Bad = 0
 
+-- whether a field is filled
 abbrev pub isNumber : Content → Bool
 isNumber c = eqb (flagOf c) 1
 

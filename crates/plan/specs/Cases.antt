@@ -48,6 +48,7 @@ loopsAfter l n mark.None = l
 loopsAfter l n (mark.Counted len r b) = record { end = record { 0 = n + len }; endless = false }
 loopsAfter l n (mark.Endless len b) = record { end = record { 0 = n + len }; endless = true }
 
+-- the case that holds nothing
 unfoldable pub emptyCase : Case
 emptyCase =
     record {

@@ -27,10 +27,11 @@ use Rattle.plan.specs.declared.Run.{Run}
 use Rattle.items.specs.Items.{itemOf}
 use Rattle.plan.specs.Cases.{roomOf, with}
 
--- the endless loop has closed where n places are held; a loop is open there
+-- the endless loop has closed where n places are held
 abbrev pub isClosed : Loops → ℕ → Bool
 isClosed l n = l .endless && leb (l .end .0) n
 
+-- a loop is open where n places are held
 abbrev pub isOpen : Loops → ℕ → Bool
 isOpen l n = ltb n (l .end .0)
 
@@ -50,6 +51,7 @@ markAnswer l n r = cond (isNumber (at r 3) && (isOpen l n || isLong n (natural (
 unfoldable pub placeAnswer : Loops → ℕ → List Field → Answer
 placeAnswer l n r = cond (isClosed l n) (Misplaced 0) (markAnswer l n r)
 
+-- 25 and 26 are of places alone
 abbrev pub layoutAnswer : Kind → Counts → Loops → List Field → Answer
 layoutAnswer kind.State n l r = Taken
 layoutAnswer kind.Guard n l r = Taken
@@ -76,6 +78,7 @@ lastRank n =
 unfoldable pub orderAnswer : Counts → Loops → Shape → Record → Answer
 orderAnswer n l s r = cond (ltb (rankOf (s .kind)) (lastRank n)) OutOfOrder (roomAnswer n l s r)
 
+-- whether an answer says that the record is taken
 abbrev pub isTaken : Answer → Bool
 isTaken Taken = true
 isTaken NotARecord = false
@@ -122,6 +125,7 @@ cutFrom zero bs = []
 cutFrom (suc n) [] = []
 cutFrom (suc n) (b ∷ bs) = take recordLength (b ∷ bs) ∷ cutFrom n (drop recordLength (b ∷ bs))
 
+-- the records of a file
 unfoldable pub cut : List ℕ → List (List ℕ)
 cut bs = cutFrom (length bs) bs
 
@@ -133,5 +137,6 @@ runFrom c m (r ∷ rs) =
     let rest = runFrom (t .case) (m + 1) rs in
     cond (isTaken (t .answer)) rest (record { case = t .case; answer = t .answer; taken = m })
 
+-- taking the records of a file
 unfoldable pub runOf : Case → List ℕ → Run
 runOf c bs = runFrom c 0 (cut bs)

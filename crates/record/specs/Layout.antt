@@ -9,13 +9,15 @@ use Rattle.record.specs.declared.Field.{Field}
 use Rattle.record.specs.declared.Record.{Record}
 use Rattle.record.specs.Spelling.{contentOf}
 
--- the bytes of a field; the fields of a record; its bytes: the letter, the fields, the line feed
+-- the bytes of a field
 abbrev pub width : ℕ
 width = 7
 
+-- the fields of a record
 abbrev pub fields : ℕ
 fields = 8
 
+-- the bytes of a record: the letter, the fields, the line feed
 abbrev pub recordLength : ℕ
 recordLength = 1 + fields * width + 1
 

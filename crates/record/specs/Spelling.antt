@@ -9,13 +9,15 @@ use lib.IntN.{ℤ, pos, negℤ}
 use Rattle.record.specs.declared.Content.{Content}
 use Rattle.record.specs.declared.Content.the-variants.{Blank, Number, Bad}
 
--- the bytes of a field: a space, a minus, the digit d
+-- the byte of a space
 abbrev pub space : ℕ
 space = 32
 
+-- the byte of a minus
 abbrev pub minus : ℕ
 minus = 45
 
+-- the byte of the digit d
 abbrev pub digit : ℕ → ℕ
 digit d = 48 + d
 

@@ -18,7 +18,7 @@ unfoldable pub rowsOf : Kind → List (List ℕ) → List (List Field)
 rowsOf k [] = []
 rowsOf k (b ∷ bs) = cond (eqb (getD b 0 0) (letterOf k)) (recordOf b .fields ∷ rowsOf k bs) (rowsOf k bs)
 
--- the case that records spell, and that a file spells
+-- the case that records spell
 abbrev pub spelledBy : List (List ℕ) → Items
 spelledBy rs =
     record {
@@ -29,6 +29,7 @@ spelledBy rs =
       places = map placeOf (rowsOf kind.Place rs);
     }
 
+-- the case that a file spells
 abbrev pub spelled : List ℕ → Items
 spelled bs = spelledBy (cut bs)
 

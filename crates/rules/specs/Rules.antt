@@ -48,13 +48,15 @@ pub record Lowest (P : ℕ → Type 0) (f : ℕ) : Type 0 where
 abbrev pub IsBad : List ℕ → ℕ → Type 0
 IsBad bs f = misspelled (contentAt bs f) ≡ true
 
--- field f is needed and blank; it must be blank and is filled; it is a number outside its range
+-- field f is needed and blank
 abbrev pub IsMissing : Kind → List ℕ → ℕ → Type 0
 IsMissing k bs f = missing (ruleFor k bs f) (contentAt bs f) ≡ true
 
+-- field f must be blank and is filled
 abbrev pub IsExtra : Kind → List ℕ → ℕ → Type 0
 IsExtra k bs f = extra (ruleFor k bs f) (contentAt bs f) ≡ true
 
+-- field f is a number outside its range
 abbrev pub IsOutside : Kind → List ℕ → ℕ → Type 0
 IsOutside k bs f = outside (ruleFor k bs f) (contentAt bs f) ≡ true
 
@@ -79,15 +81,17 @@ countsOf x =
 abbrev pub IsNotThere : Items → Kind → List ℕ → ℕ → Type 0
 IsNotThere x k bs f = notThere (countsOf x) (ruleFor k bs f) (contentAt bs f) ≡ true
 
--- the loop mark of place p; the number of places of its loop, 0 for no loop; whether it is endless
+-- the loop mark of place p
 abbrev pub markAt : List Place → ℕ → LoopMark
 markAt ps p = getD ps p (noItem kind.Place) .mark
 
+-- the number of places of a loop, 0 for no loop
 abbrev pub lengthOf : LoopMark → ℕ
 lengthOf mark.None = 0
 lengthOf (mark.Counted l n b) = l
 lengthOf (mark.Endless l b) = l
 
+-- whether a loop is endless
 abbrev pub isEndless : LoopMark → Bool
 isEndless mark.None = false
 isEndless (mark.Counted l n b) = false

@@ -65,6 +65,7 @@ arrayOf kind.Move c = c .moves
 arrayOf kind.Sentence c = c .sentences
 arrayOf kind.Place c = c .places
 
+-- what every case has that records make
 pub record Sound (c : Case) : Type 0 where
   -- the items are within the room, and what is left of it is as in the empty case
   pub long : (k : Kind) → length (arrayOf k c) ≡ roomOf k
