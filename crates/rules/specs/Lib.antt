@@ -9,5 +9,6 @@ pub mod Stages
 pub mod First
 pub mod Kept
 pub mod Spelled
+pub mod Bounds
 pub mod Theorems
 pub mod Examples

@@ -1,14 +1,19 @@
 -- What is proved of taking records: start here. The rules are in Rules.antt, the invariant in Sound.antt, the case that a file spells in
--- Files.antt; `takenOf` and `runOf`, with which the code's promises are equations, in the crate plan. Assumes nothing.
+-- Files.antt; how fields are spelled in the crate spelling; `takenOf` and `runOf`, with which the code's promises are equations, in the crate plan. Assumes nothing.
 use mathlib.Core.Path.{_≡_, refl, _∙_, ap}
 use mathlib.Core.Logic.{_⊎_}
 use mathlib.Core.List.{List, [], _∷_, _++_}
 use mathlib.Core.Bool.{true, false}
 use Prim.Native.Nat.{ℕ, _+_}
+use lib.ListN.{length}
 use Rattle.integer.specs.Tests.{cond-by}
-use Rattle.record.specs.Layout.{recordOf}
+use Rattle.record.specs.Spelling.{contentOf}
+use Rattle.record.specs.Layout.{width, recordOf}
 use Rattle.kinds.specs.declared.Kind.{Kind}
+use Rattle.kinds.specs.declared.Sort.the-variants.{Bound}
+use Rattle.kinds.specs.Table.{rangeOf}
 use Rattle.faults.specs.declared.Answer.{Answer}
+use Rattle.faults.specs.Faults.{beyond}
 use Rattle.items.specs.Items.{itemOf, rowOf}
 use Rattle.plan.specs.declared.Case.{Case}
 use Rattle.plan.specs.declared.Run.{Run}
@@ -21,6 +26,7 @@ use Rattle.rules.specs.Held.{sound-is-kept, same-kind, other-kind, refus
 use Rattle.rules.specs.First.{answers-first, first-one}
 use Rattle.rules.specs.Kept.{sound-empty, sound-kept}
 use Rattle.rules.specs.Spelled.{Spells, spells-file}
+use Rattle.rules.specs.Bounds.{any-bound}
 
 -- a record is taken where no refusal applies, and else gets the first that applies, of which there is one
 pub answers : (c : Case) (bs : List ℕ) → Sound c →
@@ -74,3 +80,7 @@ sound bs = sound-from (cut bs) emptyCase 0 sound-empty
 -- a file all of whose records are taken gives the case that it spells
 pub spelled-case : (bs : List ℕ) → isTaken (runOf emptyCase bs .answer) ≡ true → Spells (cut bs) (runOf emptyCase bs)
 spelled-case = spells-file
+
+-- a bound may be any number that a field can spell: none that is read is outside its range
+pub bounds : (bs : List ℕ) → length bs ≡ width → beyond (rangeOf Bound) (contentOf bs) ≡ false
+bounds = any-bound
