@@ -39,13 +39,17 @@ isOpen l n = ltb n (l .end .0)
 abbrev pub isLong : ℕ → ℕ → Bool
 isLong n len = ltb (roomOf kind.Place) (n + len)
 
+-- a loop mark inside an open loop, or one whose loop would pass the last place
+abbrev pub isBarred : Loops → ℕ → List Field → Bool
+isBarred l n r = isNumber (at r 3) && (isOpen l n || isLong n (natural (at r 3)))
+
 -- 26: field 2 filled at place 0, or blank later
 unfoldable pub wayAnswer : ℕ → List Field → Answer
 wayAnswer n r = cond (cond (eqb n 0) (isNumber (at r 1)) (isBlank (at r 1))) WrongWayIn Taken
 
--- 25: a loop mark inside an open loop, or one whose loop would pass the last place
+-- 25: a loop mark that may not stand there
 unfoldable pub markAnswer : Loops → ℕ → List Field → Answer
-markAnswer l n r = cond (isNumber (at r 3) && (isOpen l n || isLong n (natural (at r 3)))) (Misplaced 4) (wayAnswer n r)
+markAnswer l n r = cond (isBarred l n r) (Misplaced 4) (wayAnswer n r)
 
 -- 25: a place after the endless loop has closed
 unfoldable pub placeAnswer : Loops → ℕ → List Field → Answer

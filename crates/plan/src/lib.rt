@@ -1,16 +1,16 @@
 // A case, and its collector: a record's bytes become the next item of their kind, or are refused and nothing changes.
 ghost use mathlib.Core.Path.{_≡_};
-ghost use mathlib.Core.Bool.{cond, _&&_, _||_};
-ghost use lib.Dec.{ltb};
+ghost use mathlib.Core.Bool.{cond};
+ghost use lib.Dec.{eqb, ltb};
 ghost use Prim.Native.Nat.{_+_, _-_, _≤_, _<_, _^_, min};
-ghost use Rattle.record.specs.Layout.{at, recordLength};
+ghost use Rattle.record.specs.Layout.{recordLength};
 ghost use Rattle.kinds.specs.declared.Kind.the-variants as kind;
 ghost use Rattle.kinds.specs.Kinds.{rankOf, countOf};
-ghost use Rattle.kinds.specs.Table.{natural, isNumber, shapeOf};
+ghost use Rattle.kinds.specs.Table.{shapeOf};
 ghost use Rattle.faults.specs.declared.Fault.the-variants as fault;
 ghost use Rattle.faults.specs.Faults.{lowestFault};
 ghost use Rattle.plan.specs.Cases.{emptyCase, noItem, roomOf, loopsAfter};
-ghost use Rattle.plan.specs.Taking.{isClosed, isOpen, isLong, isTaken, refusalOf, lastRank, wayAnswer, placeAnswer, layoutAnswer, orderAnswer, answerOf, takenOf, runOf};
+ghost use Rattle.plan.specs.Taking.{isClosed, isBarred, isTaken, refusalOf, lastRank, wayAnswer, placeAnswer, layoutAnswer, orderAnswer, answerOf, takenOf, runOf};
 use faults::Answer;
 use faults::Fault;
 use faults::Head;
@@ -167,7 +167,7 @@ impl Loops {
     // Whether a record of place n has a loop mark inside an open loop, or one whose loop would pass the last place.
     fn bars(self, n: usize, row: Record) -> bool
         requires { ⌜ n ≤ roomOf kind.Place ⌝ }
-        ensures { λ r. ⌜ r ≡ (isNumber (at (row .fields) 3) && (isOpen self n || isLong n (natural (at (row .fields) 3)))) ⌝ }
+        ensures { λ r. ⌜ r ≡ isBarred self n (row .fields) ⌝ }
     {
         let length = items::content_at(row, 3);
         if kinds::is_number(length) {
@@ -178,6 +178,18 @@ impl Loops {
             return Case::PLACES < n + kinds::natural_of(length) as usize;
         }
         false
+    }
+
+    // Whether 25 is said of a record of place n with this field: 0 where the endless loop has closed, else for its loop mark.
+    fn misplaces(self, field: u8, n: usize, row: Record) -> bool
+        requires { ⌜ n ≤ roomOf kind.Place ⌝ }
+        ensures { λ r. ⌜ r ≡ cond (eqb field 0) (isClosed self n) (isBarred self n (row .fields)) ⌝ }
+    {
+        if field == 0 {
+            self.closed(n)
+        } else {
+            self.bars(n, row)
+        }
     }
 }
 
@@ -203,10 +215,10 @@ fn place_answer(loops: Loops, n: usize, row: Record) -> Answer
     requires { ⌜ n ≤ roomOf kind.Place ⌝ }
     ensures { λ r. ⌜ r ≡ placeAnswer loops n (row .fields) ⌝ }
 {
-    if loops.closed(n) {
+    if loops.misplaces(0, n, row) {
         return Answer::Misplaced(0);
     }
-    if loops.bars(n, row) {
+    if loops.misplaces(4, n, row) {
         return Answer::Misplaced(4);
     }
     way_answer(n, row)
