@@ -1,5 +1,6 @@
 pub mod Order
 pub mod Signed
+pub mod Sums
 pub mod Tests
 pub mod Cases
 pub mod Lists

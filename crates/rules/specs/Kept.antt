@@ -1,5 +1,5 @@
 -- Every case that is made by taking records is sound: the empty one is, and taking a record keeps it so. Assumes nothing.
-use mathlib.Core.Path.{_≡_, refl, _∙_, sym, ap₂, subst, subst₂}
+use mathlib.Core.Path.{_≡_, refl, _∙_, sym, ap, ap₂, subst, subst₂}
 use mathlib.Core.Logic.{_↔_}
 use mathlib.Core.List.{List, [], _∷_, _++_}
 use mathlib.Core.Bool.{Bool, true, false, cond, _&&_, _||_, true≢false}
@@ -178,6 +178,7 @@ record Fits (c : Case) (k : Kind) (x : Item k) : Type 0 where
   room : countOf (c .count) k < roomOf k
   fit : Fit k (rowOf k x)
   there : There (c .count) k (rowOf k x)
+  read : itemOf k (rowOf k x) ≡ x
   place : k ≡ kind.Place → Placed (c .loops) (c .count .places) (rowOf k x)
 
 -- what a sound case has of its n places ps, with the loops kept beside them
@@ -238,6 +239,7 @@ module _ (c : Case) (s : Sound c) where
               all-with (λ j i y. There (reach (with c k x .count) j i) j (rowOf j y))
               (λ j i h. there-more (reaches (more c k x) j i) j (rowOf j (getD (listOf j (itemsOf c)) i (noItem j))) (s .there j i h))
               (there-more (reaches-held c k x) k (rowOf k x) (t .there));
+          read = all-with (λ j i y. itemOf j (rowOf j y) ≡ y) (s .read) (t .read);
           ways = p .ways;
           loops = p .loops;
           derived = p .derived;
@@ -254,6 +256,7 @@ sound-empty =
       padded = elim [ kind.State ↦ refl | kind.Guard ↦ refl | kind.Move ↦ refl | kind.Sentence ↦ refl | kind.Place ↦ refl ];
       fit = λ k i h. absurd (nothing k i h);
       there = λ k i h. absurd (nothing k i h);
+      read = λ k i h. absurd (nothing k i h);
       ways = λ i h. absurd (nothing kind.Place i h);
       loops = record { apart = λ p q b h m. absurd (omega arith); within = λ p h. absurd (omega arith); last = λ p e. omega arith };
       derived = refl;
@@ -276,6 +279,7 @@ taken-fits c bs t =
       room = t .next .room;
       fit = subst (Fit k) e (t .fit);
       there = subst (There (c .count) k) e (t .next .there);
+      read = ap (itemOf k) (sym e);
       place = λ q. subst (Placed (c .loops) (c .count .places)) e (t .next .place q);
     }
 

@@ -17,7 +17,7 @@ use Rattle.faults.specs.Faults.{misspelled, missing, extra, outside, notThere}
 use Rattle.items.specs.declared.Ref.the-variants as ref
 use Rattle.items.specs.declared.LoopMark.the-variants as mark
 use Rattle.items.specs.declared.Place.{Place}
-use Rattle.items.specs.Items.{Item, rowOf}
+use Rattle.items.specs.Items.{Item, itemOf, rowOf}
 use Rattle.plan.specs.declared.Loops.{Loops}
 use Rattle.plan.specs.declared.Case.{Case}
 use Rattle.plan.specs.Cases.{listOf, itemsOf, roomOf, noItem, noLoops, loopsAfter}
@@ -74,6 +74,10 @@ pub record Sound (c : Case) : Type 0 where
   -- every item meets the rules of its kind: what is needed is there, all numbers are in their ranges, references point at what is there
   pub fit : (k : Kind) (i : ℕ) → i < countOf (c .count) k → Fit k (rowOf k (getD (listOf k (itemsOf c)) i (noItem k)))
   pub there : (k : Kind) (i : ℕ) → i < countOf (c .count) k → There (reach (c .count) k i) k (rowOf k (getD (listOf k (itemsOf c)) i (noItem k)))
+  -- and is what its fields become
+  pub read :
+      (k : Kind) (i : ℕ) → i < countOf (c .count) k →
+      itemOf k (rowOf k (getD (listOf k (itemsOf c)) i (noItem k))) ≡ getD (listOf k (itemsOf c)) i (noItem k)
   -- field 2 is blank exactly at place 0
   pub ways : (i : ℕ) → i < c .count .places → (i ≡ 0) ↔ (getD (itemsOf c .places) i (noItem kind.Place) .way ≡ ref.None)
   pub loops : LoopsApart (itemsOf c .places)

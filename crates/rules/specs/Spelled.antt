@@ -21,20 +21,20 @@ use Rattle.plan.specs.Cases.{listOf, itemsOf, with, emptyCase}
 use Rattle.plan.specs.Taking.{isTaken, takenOf, runFrom, runOf, cut}
 use Rattle.rules.specs.Files.{rowsOf, spelledBy, size}
 use Rattle.rules.specs.Fields.{fields-again}
-use Rattle.rules.specs.Held.{Kept, Other, IsTaken, by-kind, same-kind, other-list, kept-with, kept-counts, empty-kept, empty-list, taken-with}
+use Rattle.rules.specs.Held.{Kept, IsTaken, by-kind, same-kind, other-list, kept-with, kept-counts, empty-kept, empty-list, taken-with}
 
 -- ---- one record
 
 -- a record gives its fields to its own kind, and nothing to another
 module _ (b : List ℕ) (rs : List (List ℕ)) (k : Kind) (e : getD b 0 0 ≡ letterOf k) where
-  rows-same : rowsOf k (b ∷ rs) ≡ recordOf b .fields ∷ rowsOf k rs
+  pub rows-same : rowsOf k (b ∷ rs) ≡ recordOf b .fields ∷ rowsOf k rs
   unfolding rowsOf
   rows-same = ap (λ t. cond t (recordOf b .fields ∷ rowsOf k rs) (rowsOf k rs)) (eq-eqb (getD b 0 0) (letterOf k) e)
 
-  rows-other : (j : Kind) → Other j k → rowsOf j (b ∷ rs) ≡ rowsOf j rs
+  pub rows-other : (j : Kind) → eqb (letterOf k) (letterOf j) ≡ false → rowsOf j (b ∷ rs) ≡ rowsOf j rs
   unfolding rowsOf
   rows-other j o =
-      ap (λ t. cond t (recordOf b .fields ∷ rowsOf j rs) (rowsOf j rs)) (ap (λ n. eqb n (letterOf j)) e ∙ o .letter)
+      ap (λ t. cond t (recordOf b .fields ∷ rowsOf j rs) (rowsOf j rs)) (ap (λ n. eqb n (letterOf j)) e ∙ o)
 
 length-row : (b : List ℕ) → length (recordOf b .fields) ≡ fields
 unfolding recordOf
@@ -57,7 +57,7 @@ empty-size = refl
 
 module _ (c : Case) (b : List ℕ) (rs : List (List ℕ)) (t : IsTaken c b) where
   -- what it adds to the items
-  lists-more : Kept c → (j : Kind) →
+  pub lists-more : Kept c → (j : Kind) →
       listOf j (itemsOf (takenOf c b .case)) ++ map (itemOf j) (rowsOf j rs) ≡ listOf j (itemsOf c) ++ map (itemOf j) (rowsOf j (b ∷ rs))
   lists-more s =
       by-kind
@@ -69,7 +69,7 @@ module _ (c : Case) (b : List ℕ) (rs : List (List ℕ)) (t : IsTaken c b) wher
       ∙ ap (λ l. listOf k (itemsOf c) ++ map (itemOf k) l) (sym (rows-same b rs k (t .letter))))
       (λ j o.
       ap (λ d. listOf j (itemsOf d) ++ map (itemOf j) (rowsOf j rs)) (t .case)
-      ∙ ap₂ (λ l r. l ++ map (itemOf j) r) (other-list c j k x o) (sym (rows-other b rs k (t .letter) j o)))
+      ∙ ap₂ (λ l r. l ++ map (itemOf j) r) (other-list c j k x o) (sym (rows-other b rs k (t .letter) j (o .letter))))
     where
       k : Kind
       k = t .kind
@@ -84,7 +84,7 @@ module _ (c : Case) (b : List ℕ) (rs : List (List ℕ)) (t : IsTaken c b) wher
       by-kind (λ j. map (rowOf j) (map (itemOf j) (rowsOf j (b ∷ rs))) ≡ rowsOf j (b ∷ rs)) (t .kind)
       (rw (rows-same b rs (t .kind) (t .letter))
       (ap₂ (λ r l. r ∷ l) (fields-again (t .kind) (recordOf b .fields) (length-row b) (t .fit)) (f (t .kind))))
-      (λ j o. rw (rows-other b rs (t .kind) (t .letter) j o) (f j))
+      (λ j o. rw (rows-other b rs (t .kind) (t .letter) j (o .letter)) (f j))
 
   kept-more : Kept c → Kept (takenOf c b .case)
   kept-more s = subst Kept (sym (t .case)) (kept-with c (t .kind) (itemOf (t .kind) (recordOf b .fields)) s (t .next .room))
@@ -107,7 +107,7 @@ record Ran (c : Case) (m : ℕ) (rs : List (List ℕ)) (r : Run) : Type 0 where
   taken : r .taken ≡ m + length rs
   items : size (itemsOf (r .case)) ≡ size (itemsOf c) + length rs
 
-goes-on : (t : Bool) (a b : Run) → isTaken (b .answer) ≡ t → isTaken (cond t a b .answer) ≡ true → (t ≡ true) × (cond t a b ≡ a)
+pub goes-on : (t : Bool) (a b : Run) → isTaken (b .answer) ≡ t → isTaken (cond t a b .answer) ≡ true → (t ≡ true) × (cond t a b ≡ a)
 goes-on true a b e h = (refl, refl)
 goes-on false a b e h = absurd (true≢false (sym h ∙ e))
 

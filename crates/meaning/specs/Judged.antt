@@ -1,0 +1,210 @@
+-- What each answer of a judgement says of a case whose records are all taken, in the order of document 01. Never what a checker works out.
+use mathlib.Core.Path.{_≡_}
+use mathlib.Core.Logic.{_↔_, _⊎_}
+use mathlib.Core.List.{List, [], _∷_, _++_, map}
+use mathlib.Core.Bool.{Bool, true, false, cond}
+use Prim.Native.Nat.{ℕ, zero, suc, _+_, _-_, _<_}
+use lib.IntN.{pos}
+use lib.ListN.{length, getD}
+use Rattle.kinds.specs.declared.Kind.the-variants as kind
+use Rattle.items.specs.declared.LoopMark.{LoopMark}
+use Rattle.items.specs.declared.LoopMark.the-variants as mark
+use Rattle.items.specs.declared.Ref.{Ref}
+use Rattle.items.specs.declared.Ref.the-variants as ref
+use Rattle.items.specs.declared.Place.{Place}
+use Rattle.plan.specs.Cases.{Items, noItem}
+use Rattle.rules.specs.Rules.{Closed}
+use Rattle.rules.specs.Files.{size}
+use Rattle.meaning.specs.declared.Judgement.{Judgement}
+use Rattle.meaning.specs.declared.Judgement.the-variants.{Accepted, Unfinished, WrongStart, Unconnected, GuardFails, WrongMark, RootUnmarked}
+use Rattle.meaning.specs.Run.{Moment, Way, Counters, here, stretch, spot, taken, moveNo, moveOf, counters, placeAt, guardAt, guardsOf, Meets}
+use Rattle.meaning.specs.Truth.{Trace, bit, True}
+
+-- ---- lists in document 01's order
+
+-- all of a list are good
+pub data All {A : Type 0} (Good : A → Type 0) : List A → Type 0 where
+  none : All Good []
+  also : {x : A} {l : List A} → Good x → All Good l → All Good (x ∷ l)
+
+-- x is bad, and all before it are good
+pub data First {A : Type 0} (Good Bad : A → Type 0) : List A → A → Type 0 where
+  this : {x : A} {l : List A} → Bad x → First Good Bad (x ∷ l) x
+  later : {x y : A} {l : List A} → Good y → First Good Bad l x → First Good Bad (y ∷ l) x
+
+-- the numbers from s on, n of them
+unfoldable pub from : ℕ → ℕ → List ℕ
+from s zero = []
+from s (suc n) = s ∷ from (suc s) n
+
+-- f of each of a list, in order
+unfoldable pub gather : {A B : Type 0} → (A → List B) → List A → List B
+gather f [] = []
+gather f (a ∷ l) = f a ++ gather f l
+
+-- ---- the case
+
+-- the initial counters: all are 0
+abbrev pub zeros : Counters
+zeros j = pos 0
+
+-- 24 doesn't apply: there is a sentence, and the endless loop has closed
+abbrev pub Finished : Items → Type 0
+Finished x = (0 < length (x .sentences)) × Closed x
+
+-- the state of place p
+abbrev pub stateOf : Items → ℕ → ℕ
+stateOf x p = placeAt (x .places) p .state
+
+-- ---- the ways of a plan, and where they connect
+
+-- the way by the move into place p, where it names one
+abbrev pub wayIn : ℕ → Ref → List Way
+wayIn p ref.None = []
+wayIn p (ref.At t) = record { place = p; back = false } ∷ []
+
+-- the way by the back move of the loop that place p begins
+abbrev pub wayBack : ℕ → LoopMark → List Way
+wayBack p mark.None = []
+wayBack p (mark.Counted l n b) = record { place = p; back = true } ∷ []
+wayBack p (mark.Endless l b) = record { place = p; back = true } ∷ []
+
+-- the ways into a place: the way in before the back move
+abbrev pub waysInto : List Place → ℕ → List Way
+waysInto ps p = wayIn p (placeAt ps p .way) ++ wayBack p (placeAt ps p .mark)
+
+-- all ways of a plan, by place
+abbrev pub waysOf : Items → List Way
+waysOf x = gather (waysInto (x .places)) (from 0 (length (x .places)))
+
+-- the place that a way comes from: the place before, or for a back move the last place of the loop
+abbrev pub before : List Place → Way → ℕ
+before ps w = cond (w .back) (w .place + stretch (placeAt ps (w .place) .mark) - 1) (w .place - 1)
+
+-- the move of a way leads from the place before to this place
+pub record Connects (x : Items) (w : Way) : Type 0 where
+  pub leaves : moveOf x w .from ≡ stateOf x (before (x .places) w)
+  pub comes : moveOf x w .to ≡ stateOf x (w .place)
+
+-- ---- guards
+
+-- a guard on a way
+pub record Test : Type 0 where
+  pub way : Way
+  pub guard : ℕ
+
+-- the guards of all ways: by place, way in before back move, field 7 before 8
+abbrev pub testsOf : Items → List Test
+testsOf x = gather (λ w. map (λ g. record { way = w; guard = g }) (guardsOf (moveOf x w))) (waysOf x)
+
+-- ---- marks
+
+-- a sentence at a place
+pub record Mark : Type 0 where
+  pub sentence : ℕ
+  pub place : ℕ
+
+-- all sentences at all places: by sentence, then by place
+abbrev pub marksOf : Items → List Mark
+marksOf x = gather (λ i. map (λ p. record { sentence = i; place = p }) (from 0 (length (x .places)))) (from 0 (length (x .sentences)))
+
+-- sentence i is marked at place p: the marks are the labelling of the path schema
+abbrev pub marked : Items → ℕ → ℕ → Bool
+marked x i p = bit (placeAt (x .places) p .marks) i
+
+-- the root: the last sentence
+abbrev pub root : Items → ℕ
+root x = length (x .sentences) - 1
+
+-- ---- the run against the case, from given counters at the start
+
+-- what sentences see of the run
+abbrev pub traceOf : Items → Counters → Trace
+traceOf x θ =
+    record {
+      propositions = λ m. getD (x .states) (stateOf x (here (spot (x .places) m))) (noItem kind.State) .propositions;
+      counters = counters x θ;
+    }
+
+-- sentence i is true at moment m of the run
+abbrev pub TrueAt : Items → Counters → ℕ → Moment → Type 0
+TrueAt x θ i m = True (x .guards) (x .sentences) (traceOf x θ) i m
+
+-- the guard is met at moment m + 1
+abbrev pub MetAfter : Items → Counters → ℕ → Moment → Type 0
+MetAfter x θ g m = Meets (guardAt (x .guards) g) (counters x θ (suc m))
+
+-- the guard holds whenever the way is taken
+pub record Passes (x : Items) (θ : Counters) (t : Test) : Type 0 where
+  pub met : (m : Moment) → taken (x .places) m ≡ t .way → MetAfter x θ (t .guard) m
+
+-- the guard fails at some moment that the way is taken
+pub record Fails (x : Items) (θ : Counters) (t : Test) : Type 0 where
+  pub moment : Moment
+  pub way : taken (x .places) moment ≡ t .way
+  pub unmet : MetAfter x θ (t .guard) moment → ⊥
+
+-- the mark is as the sentence is, at every moment of the place
+pub record Right (x : Items) (θ : Counters) (k : Mark) : Type 0 where
+  pub same : (m : Moment) → here (spot (x .places) m) ≡ k .place → (marked x (k .sentence) (k .place) ≡ true) ↔ TrueAt x θ (k .sentence) m
+
+-- the sentence is marked and not true, or not marked and true, at some moment of the place
+pub record Wrong (x : Items) (θ : Counters) (k : Mark) : Type 0 where
+  pub moment : Moment
+  pub there : here (spot (x .places) moment) ≡ k .place
+  pub differs :
+      ((marked x (k .sentence) (k .place) ≡ true) × (TrueAt x θ (k .sentence) moment → ⊥))
+      ⊎ ((marked x (k .sentence) (k .place) ≡ false) × TrueAt x θ (k .sentence) moment)
+
+-- ---- acceptance, and each refusal
+
+-- neither 24 nor 31 applies
+abbrev pub Started : Items → Type 0
+Started x = Finished x × (stateOf x 0 ≡ 0)
+
+-- nor 32
+abbrev pub Connected : Items → Type 0
+Connected x = Started x × All (Connects x) (waysOf x)
+
+-- nor 33
+abbrev pub Guarded : Items → Counters → Type 0
+Guarded x θ = Connected x × All (Passes x θ) (testsOf x)
+
+-- nor 34
+abbrev pub Labelled : Items → Counters → Type 0
+Labelled x θ = Guarded x θ × All (Right x θ) (marksOf x)
+
+-- the case is accepted: none of 24 and 31 to 35 applies
+abbrev pub IsAccepted : Items → Counters → Type 0
+IsAccepted x θ = Labelled x θ × (marked x (root x) 0 ≡ true)
+
+-- what an answer says of a case: it is the first that applies
+abbrev pub Judged : Items → Counters → Judgement → Type 0
+Judged x θ (Unfinished n) = (Finished x → ⊥) × (n ≡ size x)
+Judged x θ WrongStart = Finished x × (stateOf x 0 ≡ 0 → ⊥)
+Judged x θ (Unconnected p t) =
+    Started x × ((w : Way) × First (Connects x) (λ v. Connects x v → ⊥) (waysOf x) w × (w .place ≡ p .0) × (moveNo (x .places) w ≡ ref.At t))
+Judged x θ (GuardFails p g) =
+    Connected x × ((t : Test) × First (Passes x θ) (Fails x θ) (testsOf x) t × (t .way .place ≡ p .0) × (t .guard ≡ g))
+Judged x θ (WrongMark p i) =
+    Guarded x θ × ((k : Mark) × First (Right x θ) (Wrong x θ) (marksOf x) k × (k .place ≡ p .0) × (k .sentence ≡ i))
+Judged x θ (RootUnmarked r) = Labelled x θ × (marked x (root x) 0 ≡ false) × (r ≡ root x)
+Judged x θ Accepted = IsAccepted x θ
+
+-- ---- the numbers of an answer
+
+-- document 01's three numbers
+pub record Numbers : Type 0 where
+  pub result : ℕ
+  pub second : ℕ
+  pub third : ℕ
+
+-- the numbers of each answer
+abbrev pub numbersOf : Judgement → Numbers
+numbersOf Accepted = record { result = 0; second = 0; third = 0 }
+numbersOf (Unfinished n) = record { result = 24; second = n; third = 0 }
+numbersOf WrongStart = record { result = 31; second = 0; third = 0 }
+numbersOf (Unconnected p t) = record { result = 32; second = p .0; third = t }
+numbersOf (GuardFails p g) = record { result = 33; second = p .0; third = g }
+numbersOf (WrongMark p i) = record { result = 34; second = p .0; third = i }
+numbersOf (RootUnmarked r) = record { result = 35; second = 0; third = r }
