@@ -63,7 +63,7 @@ spelled-append k rs qs =
 -- ---- taking them
 
 -- what the collector holds after a taken record is spelled by one record more
-spelled-more : (c : Case) (ps : List (List ℕ)) (b : List ℕ) → Sound c → itemsOf c ≡ spelledBy ps → isTaken (takenOf c b .answer) ≡ true →
+pub spelled-more : (c : Case) (ps : List (List ℕ)) (b : List ℕ) → Sound c → itemsOf c ≡ spelledBy ps → isTaken (takenOf c b .answer) ≡ true →
     itemsOf (takenOf c b .case) ≡ spelledBy (ps ++ (b ∷ []))
 unfolding rowsOf
 spelled-more c ps b s e h =

@@ -17,7 +17,8 @@ use Rattle.meaning.specs.Run.{Moment, Counters, here, spot}
 use Rattle.meaning.specs.Truth.{Trace, Until, counted, TrueBelow, True}
 use Rattle.meaning.specs.Judged.{marked, TrueAt, traceOf}
 use Rattle.meaning.specs.Facts.{Refers}
-use Rattle.meaning.specs.Counting.{Label, Gets, weightOf, until-gets, adds-weight}
+use Rattle.meaning.specs.declared.Label.{Label}
+use Rattle.meaning.specs.Counting.{Gets, weightOf, until-gets, adds-weight}
 
 pub below : (gs : List Guard) (fs : List Sentence) (t : Trace) (n j : ℕ) (m : Moment) → j < n → TrueBelow gs fs t n j m ≡ True gs fs t j m
 unfolding TrueBelow

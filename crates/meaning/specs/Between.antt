@@ -11,7 +11,8 @@ use lib.Signed.{_≤ℤ_}
 use Rattle.items.specs.declared.Place.{Place}
 use Rattle.integer.specs.Sums.{le-in, le-or, swap-sums, times-sum}
 use Rattle.meaning.specs.Run.{Moment, here, spot, taken, Counters, sum}
-use Rattle.meaning.specs.Counting.{Label, total, total-same, Gets, gets-up, gets-down, gets-later}
+use Rattle.meaning.specs.declared.Label.{Label}
+use Rattle.meaning.specs.Counting.{total, total-same, Gets, gets-up, gets-down, gets-later}
 use Rattle.meaning.specs.Repeats.{Repeats}
 
 -- ---- more rounds

@@ -13,15 +13,10 @@ use Rattle.integer.specs.Order.{up, down}
 use Rattle.items.specs.declared.Term.{Term}
 use Rattle.items.specs.declared.Term.the-variants as term
 use Rattle.integer.specs.Sums.{le-out, le-in, le-or, add-rel, neg-rel}
+use Rattle.meaning.specs.declared.Label.{Label}
 use Rattle.meaning.specs.Run.{Moment}
 use Rattle.meaning.specs.Truth.{Counted, Adds, Sum, Until, counted}
 use Rattle.meaning.specs.Facts.{TermRefers}
-
--- what a moment is for an until, as the marks tell
-pub record Label : Type 0 where
-  pub goal : Bool
-  pub held : Bool
-  pub weight : ℤ
 
 -- the weights of the n moments from i on
 unfoldable pub total : (ℕ → Label) → ℕ → ℕ → ℤ
@@ -41,7 +36,7 @@ pub record Gets (l : ℕ → Label) (b : ℤ) (i : ℕ) : Type 0 where
 
 -- ---- sums
 
-total-split : (l : ℕ → Label) (i m n : ℕ) → total l i (m + n) ≡ total l i m +ℤ total l (i + m) n
+pub total-split : (l : ℕ → Label) (i m n : ℕ) → total l i (m + n) ≡ total l i m +ℤ total l (i + m) n
 unfolding total
 total-split l i zero n = rw (zero-add, add-zero, +ℤ-idl)
 total-split l i (suc m) n = simp (suc-add, add-suc, total-split l (suc i) m n, +ℤ-assoc)
@@ -57,7 +52,7 @@ total-same l l′ i i′ (suc n) same =
 
 -- m moments are replaced by m′ others, and what follows is the same
 module _ (l l′ : ℕ → Label) {b : ℤ} (b′ : ℤ) (i i′ m m′ : ℕ) where
-  unfoldable splice : (g : Gets l b i) → m ≤ g .n → Holds l′ i′ m′ → ((j : ℕ) → m + j ≤ g .n → l′ (i′ + (m′ + j)) ≡ l (i + (m + j)))
+  unfoldable pub splice : (g : Gets l b i) → m ≤ g .n → Holds l′ i′ m′ → ((j : ℕ) → m + j ≤ g .n → l′ (i′ + (m′ + j)) ≡ l (i + (m + j)))
       → ((x : ℤ) → b ≤ℤ (total l i m +ℤ x) → b′ ≤ℤ (total l′ i′ m′ +ℤ x)) → Gets l′ b′ i′
   splice g h before same enough =
       record {

@@ -50,7 +50,7 @@ all-at P [] d none p i = p
 all-at P (x ∷ l) d (also h t) p zero = h
 all-at P (x ∷ l) d (also h t) p (suc i) = all-at P l d t p i
 
-all-both : {A : Type 0} {P : A → Type 0} {l m : List A} → All P l → All P m → All P (l ++ m)
+pub all-both : {A : Type 0} {P : A → Type 0} {l m : List A} → All P l → All P m → All P (l ++ m)
 all-both none b = b
 all-both (also h t) b = also h (all-both t b)
 

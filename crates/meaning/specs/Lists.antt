@@ -66,7 +66,7 @@ module _ {A B : Type 0} (f : A → List B) where
   has-gather {b = b} (List·Memᴰ·head {xs = l} e) k = Memᴰ·append-left (gather f l) (subst (λ c. Has (f c) b) e k)
   has-gather (List·Memᴰ·tail {x = c} m) k = Memᴰ·append-right (f c) (has-gather m k)
 
-  gather-has : (l : List A) {b : B} → Has (gather f l) b → (a : A) × Has l a × Has (f a) b
+  pub gather-has : (l : List A) {b : B} → Has (gather f l) b → (a : A) × Has l a × Has (f a) b
   unfolding gather
   gather-has [] m = absurd (List·Memᴰ·not-nil m)
   gather-has (c ∷ l) m =

@@ -33,7 +33,7 @@ module _ (P : Step → Type 0) (ps : List Place) (s : Spot) where
   L = stretch (markAt ps (s .first))
 
   -- what is true of each of the three steps is true of the next one
-  next-by :
+  pub next-by :
       (s .step + 1 < L → P (goes false (s .first) (s .step + 1) (s .round))) →
       (L ≤ s .step + 1 → again (markAt ps (s .first)) (s .round) ≡ true → P (goes true (s .first) 0 (s .round + 1))) →
       (L ≤ s .step + 1 → again (markAt ps (s .first)) (s .round) ≡ false → P (goes false (s .first + L) 0 0)) →

@@ -27,7 +27,8 @@ use Rattle.meaning.specs.Judged.{All, IsAccepted, stateOf, Test, Passes,
 use Rattle.meaning.specs.Facts.{Facts, Refers, placesWith, withRounds}
 use Rattle.meaning.specs.Lists.{all-map, all-zip, all-marks}
 use Rattle.meaning.specs.Rounds.{same-move, same-state, same-marked, same-ways, same-tests, same-connects, same-closed, same-laid}
-use Rattle.meaning.specs.Counting.{Label, Gets}
+use Rattle.meaning.specs.declared.Label.{Label}
+use Rattle.meaning.specs.Counting.{Gets}
 use Rattle.meaning.specs.Below.{below, labelOf, RightBelow, SaysBelow, until-labels}
 use Rattle.meaning.specs.Stays.{in-plan}
 use Rattle.meaning.specs.Repeats.{Repeats, repeats}

@@ -27,7 +27,8 @@ use Rattle.meaning.specs.Judged.{All, none, also, First, later, from, ga
 use Rattle.meaning.specs.Facts.{Refers}
 use Rattle.meaning.specs.Lists.{has-below, all-pairs}
 use Rattle.meaning.specs.Walk.{at, next-back, in-stretch}
-use Rattle.meaning.specs.Counting.{Label, total, Gets, until-gets, adds-weight}
+use Rattle.meaning.specs.declared.Label.{Label}
+use Rattle.meaning.specs.Counting.{total, Gets, until-gets, adds-weight}
 use Rattle.meaning.specs.Below.{labelOf, SaysBelow, says-below}
 
 -- ---- lists

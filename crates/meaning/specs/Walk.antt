@@ -97,7 +97,7 @@ pub record Reached (ps : List Place) (s : ℕ) : Type 0 where
   pub before : (m : Moment) → m < moment → spot ps m .first < s
 
 -- the last round of a stretch that has one
-last-round : (m : LoopMark) → (isEndless m ≡ true → ⊥) → (k : ℕ) × ((i : ℕ) → i < k → again m i ≡ true) × (again m k ≡ false)
+pub last-round : (m : LoopMark) → (isEndless m ≡ true → ⊥) → (k : ℕ) × ((i : ℕ) → i < k → again m i ≡ true) × (again m k ≡ false)
 last-round mark.None d = (0, λ i h. absurd (omega arith), refl)
 last-round (mark.Counted l n b) d = (n - 1, λ i h. lt-ltb (i + 1) n (omega arith), le-ltb (n - 1 + 1) n (omega arith))
 last-round (mark.Endless l b) d = absurd (d refl)

@@ -90,7 +90,7 @@ module _ (c : Case) (b : List ℕ) (rs : List (List ℕ)) (t : IsTaken c b) wher
   kept-more s = subst Kept (sym (t .case)) (kept-with c (t .kind) (itemOf (t .kind) (recordOf b .fields)) s (t .next .room))
 
   -- there is one item more
-  size-more : Kept c → size (itemsOf (takenOf c b .case)) ≡ size (itemsOf c) + 1
+  pub size-more : Kept c → size (itemsOf (takenOf c b .case)) ≡ size (itemsOf c) + 1
   size-more s =
       ap total (sym (kept-counts (takenOf c b .case) (kept-more s)))
       ∙ ap (λ d. total (d .count)) (t .case)

@@ -81,7 +81,7 @@ blank-fault fault.Extra = refl
 blank-fault fault.OutOfRange = refl
 blank-fault (fault.NotThere n) = refl
 
-past-fault : (f : Fault) (s : Shape) (bs : List ℕ) (k : ℕ) → fields ≤ k → faultAt f s (recordOf bs) k ≡ false
+pub past-fault : (f : Fault) (s : Shape) (bs : List ℕ) (k : ℕ) → fields ≤ k → faultAt f s (recordOf bs) k ≡ false
 unfolding ruleAt recordOf
 past-fault f s bs k h =
     let row : List Rule = rowOf counters (s .kind) (s .form) (inFilled (s .filled)) in

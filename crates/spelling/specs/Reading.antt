@@ -3,7 +3,7 @@
 use mathlib.Core.Path.{_≡_, refl, _∙_, sym, ap}
 use mathlib.Core.Bool.{true, false}
 use mathlib.Core.List.{List, [], _∷_, _++_, append-nil}
-use Prim.Native.Nat.{ℕ, zero, suc, _-_, _<_, _≤_}
+use Prim.Native.Nat.{ℕ, zero, suc, _-_, _^_, _<_, _≤_}
 use native.Mathlib.Omega.{arith}
 use lib.Dec.{eqb, lit<}
 use lib.IntN.{ℤ, pos, negsuc}
@@ -33,16 +33,20 @@ unfolding contentOf
 after-spaces zero bs = refl
 after-spaces (suc k) bs = after-spaces k bs
 
--- a number with no space before it is read
-pub token-reads : (z : ℤ) → Spellable z → contentOf (token z) ≡ Number z
-unfolding token contentOf negative alone digits
-token-reads (pos zero) h = unfold numeral in refl
-token-reads (pos (suc n)) h =
-    ap contentOf (sym (append-nil (numeral width (suc n))))
+-- the digits of a number are read, and so is a number with no space before it
+pub numeral-reads : (f n : ℕ) → n < 10 ^ suc f → contentOf (numeral (suc f) n) ≡ Number (pos n)
+unfolding contentOf alone digits
+numeral-reads f zero h = unfold numeral in refl
+numeral-reads f (suc n) h =
+    ap contentOf (sym (append-nil (numeral (suc f) (suc n))))
     ∙ reads-numeral contentOf false
     (λ d bs p l.
     simp (ne-eqb (digit d) space (λ e. omega arith), ne-eqb (digit d) minus (λ e. omega arith), ne-eqb (digit d) (digit 0) (λ e. omega arith)) (leading-one false d bs p l))
-    width (suc n) [] (omega arith) h
+    (suc f) (suc n) [] (omega arith) h
+
+pub token-reads : (z : ℤ) → Spellable z → contentOf (token z) ≡ Number z
+unfolding token contentOf negative digits
+token-reads (pos n) h = numeral-reads (width - 1) n h
 token-reads (negsuc n) h =
     ap negative (sym (append-nil (numeral width (suc n))))
     ∙ reads-numeral negative true (leading-one true) width (suc n) [] (omega arith) (omega arith)

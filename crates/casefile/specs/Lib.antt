@@ -1,0 +1,9 @@
+pub mod Answer
+pub mod Line
+pub mod Listed
+pub mod Bounded
+pub mod Lines
+pub mod Refused
+pub mod Accepts
+pub mod Demands
+pub mod Starred

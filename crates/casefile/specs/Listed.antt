@@ -1,0 +1,231 @@
+-- Every file gets one of document 01's results, with its second and third number in range. Assumes nothing.
+use mathlib.Core.Path.{_≡_, refl, _∙_, sym}
+use mathlib.Core.Logic.{⊎-elim}
+use mathlib.Core.List.{List, [], _∷_, List·Memᴰ·append-cases}
+use mathlib.Core.Bool.{Bool, true, false, cond, true≢false}
+use Prim.Native.Nat.{ℕ, zero, suc, _+_, _-_, _≤_, _<_}
+use native.Mathlib.Omega.{arith}
+use native.Mathlib.Decide.{decLt}
+use lib.Dec.{eqb, lit<}
+use lib.ListN.{length}
+use Rattle.integer.specs.Tests.{cond-by}
+use Rattle.record.specs.Layout.{fields, recordOf}
+use Rattle.kinds.specs.declared.Kind.{Kind}
+use Rattle.kinds.specs.declared.Kind.the-variants as kind
+use Rattle.kinds.specs.declared.Shape.{Shape}
+use Rattle.kinds.specs.Table.{shapeOf}
+use Rattle.faults.specs.declared.Fault.{Fault}
+use Rattle.faults.specs.declared.Fault.the-variants as fault
+use Rattle.faults.specs.declared.Answer.{Answer}
+use Rattle.faults.specs.declared.Answer.the-variants as answer
+use Rattle.faults.specs.Answers.{numberOf, fieldOf}
+use Rattle.faults.specs.Faults.{faultAt}
+use Rattle.items.specs.declared.Ref.{Ref}
+use Rattle.items.specs.declared.Ref.the-variants as ref
+use Rattle.plan.specs.declared.Case.{Case}
+use Rattle.plan.specs.declared.Run.{Run}
+use Rattle.plan.specs.Cases.{Items, listOf, roomOf, emptyCase, itemsOf}
+use Rattle.plan.specs.Taking.{isTaken, takenOf, runFrom, runOf, cut}
+use Rattle.rules.specs.Rules.{Applies, countsOf}
+use Rattle.rules.specs.Files.{size}
+use Rattle.rules.specs.Sound.{Sound}
+use Rattle.rules.specs.Stages.{past-fault}
+use Rattle.rules.specs.Held.{sound-is-kept, counted, taken-with}
+use Rattle.rules.specs.Kept.{sound-empty, sound-kept}
+use Rattle.rules.specs.Spelled.{size-more}
+use Rattle.rules.specs.Theorems.{answers}
+use Rattle.meaning.specs.Run.{Way, placeAt, backOf, moveAt, moveNo, moveOf, guardsOf}
+use Rattle.meaning.specs.Judged.{All, none, also, from, wayIn, waysInto, waysOf, Test, testsOf, Mark, marksOf, marked, root, stateOf, Numbers, numbersOf, zeros}
+use Rattle.meaning.specs.Lists.{Has, all-has, has-all, all-map, gather-has, has-below, all-pairs, all-marks}
+use Rattle.meaning.specs.Given.{facts}
+use Rattle.verdict.specs.Steps.{in-way, back-way}
+use Rattle.verdict.specs.Verdict as judge
+use Rattle.verdict.specs.Verdict.{Found, nowhere, firstNot, finished, connects, passes, right, verdict}
+use Rattle.casefile.specs.Answer.{answerBy, answerOf}
+
+-- how many records a case has room for
+abbrev pub room : ℕ
+room = roomOf kind.State + (roomOf kind.Guard + (roomOf kind.Move + (roomOf kind.Sentence + roomOf kind.Place)))
+
+-- the numbers of an answer
+abbrev numbers : ℕ → ℕ → ℕ → Numbers
+numbers r s t = record { result = r; second = s; third = t }
+
+-- the three numbers are those of one of document 01's results
+pub data Listed : Numbers → Type 0 where
+  -- of a record: its number and the field
+  not-a-record : {n : ℕ} → n ≤ room → Listed (numbers 11 n 0)
+  no-line-feed : {n : ℕ} → n ≤ room → Listed (numbers 12 n 0)
+  no-such-kind : {n : ℕ} → n ≤ room → Listed (numbers 13 n 0)
+  misspelled : {n f : ℕ} → n ≤ room → 1 ≤ f → f ≤ fields → Listed (numbers 14 n f)
+  misfilled : {n f : ℕ} → n ≤ room → 1 ≤ f → f ≤ fields → Listed (numbers 15 n f)
+  out-of-range : {n f : ℕ} → n ≤ room → 1 ≤ f → f ≤ fields → Listed (numbers 16 n f)
+  out-of-order : {n : ℕ} → n ≤ room → Listed (numbers 21 n 0)
+  no-room : {n : ℕ} → n ≤ room → Listed (numbers 22 n 0)
+  not-there : {n f : ℕ} → n ≤ room → 1 ≤ f → f ≤ fields → Listed (numbers 23 n f)
+  after-the-end : {n : ℕ} → n ≤ room → Listed (numbers 25 n 0)
+  misplaced : {n : ℕ} → n ≤ room → Listed (numbers 25 n 4)
+  wrong-way-in : {n : ℕ} → n ≤ room → Listed (numbers 26 n 2)
+  -- of a judgement: the records taken; the place and the move, guard or sentence; the root
+  unfinished : {n : ℕ} → n ≤ room → Listed (numbers 24 n 0)
+  wrong-start : Listed (numbers 31 0 0)
+  unconnected : {p t : ℕ} → p < roomOf kind.Place → t < roomOf kind.Move → Listed (numbers 32 p t)
+  guard-fails : {p g : ℕ} → p < roomOf kind.Place → g < roomOf kind.Guard → Listed (numbers 33 p g)
+  wrong-mark : {p i : ℕ} → p < roomOf kind.Place → i < roomOf kind.Sentence → Listed (numbers 34 p i)
+  root-unmarked : {i : ℕ} → i < roomOf kind.Sentence → Listed (numbers 35 0 i)
+  accepted : Listed (numbers 0 0 0)
+
+-- ---- a record
+
+-- a field with a fault is one of a record's, counted from 1
+in-record : (f : Fault) (s : Shape) (bs : List ℕ) (g : ℕ) → faultAt f s (recordOf bs) (g - 1) ≡ true → g ≤ fields
+in-record f s bs g e =
+    elim (decLt fields g) [ yes h ↦ absurd (true≢false (sym e ∙ past-fault f s bs (g - 1) (omega arith))) | no h ↦ omega arith ]
+
+-- a refusal of record n that applies is listed
+module _ (x : Items) (bs : List ℕ) (n : ℕ) (h : n ≤ room) where
+  refused : (a : Answer) → Applies x bs a → Listed (numbers (numberOf a) n (fieldOf a))
+  refused answer.Taken w = absurd w
+  refused answer.NotARecord w = not-a-record h
+  refused answer.NoLineFeed w = no-line-feed h
+  refused answer.NoSuchKind w = no-such-kind h
+  refused (answer.Misspelled f) l =
+      misspelled h (l .counted) (in-record fault.Misspelled (shapeOf kind.State (recordOf bs)) bs f (l .holds))
+  refused (answer.Misfilled f) (k, is, form, w) =
+      ⊎-elim
+      (λ l. misfilled h (l .counted) (in-record fault.Missing (shapeOf k (recordOf bs)) bs f (l .holds)))
+      (λ (full, l). misfilled h (l .counted) (in-record fault.Extra (shapeOf k (recordOf bs)) bs f (l .holds)))
+      w
+  refused (answer.OutOfRange f) (k, is, l) = out-of-range h (l .counted) (in-record fault.OutOfRange (shapeOf k (recordOf bs)) bs f (l .holds))
+  refused answer.OutOfOrder w = out-of-order h
+  refused answer.NoRoom w = no-room h
+  refused (answer.NotThere f) (k, is, l) =
+      not-there h (l .counted) (in-record (fault.NotThere (countsOf x)) (shapeOf k (recordOf bs)) bs f (l .holds))
+  refused (answer.Misplaced f) (is, w) = ⊎-elim (λ c. rw (c .1) (after-the-end h)) (λ m. rw (m .2) (misplaced h)) w
+  refused answer.WrongWayIn w = wrong-way-in h
+
+-- ---- a judgement
+
+-- P is true of what is found, if anything is
+data Of {A : Type 0} (P : A → Type 0) : Found A → Type 0 where
+  no-one : Of P nowhere
+  one : {a : A} → P a → Of P (judge.at a)
+
+-- what is true of all of a list is true of the one that is found
+found : {A : Type 0} {P : A → Type 0} {l : List A} (ok : A → Bool) → All P l → Of P (firstNot ok l)
+unfolding firstNot
+found ok none = no-one
+found {A} {P} ok (also {x = a} p h) = go (ok a) (found ok h)
+  where
+    go : (t : Bool) {y : Found A} → Of P y → Of P (elim t [ true ↦ y | false ↦ judge.at a ])
+    go true q = q
+    go false q = one p
+
+module _ (c : Case) (s : Sound c) where
+  abbrev x : Items
+  x = itemsOf c
+
+  -- all that is held has room
+  held : (k : Kind) → length (listOf k x) ≤ roomOf k
+  held k = omega (arith, counted c s k, s .room k)
+
+  pub within : size x ≤ room
+  within = omega (arith, held kind.State, held kind.Guard, held kind.Move, held kind.Sentence, held kind.Place)
+
+  -- the place of a way is there
+  way-place : (w : Way) → Has (waysOf x) w → w .place < length (x .places)
+  way-place w h =
+      let ps = x .places in
+      let (p, b, k) = gather-has (waysInto ps) (from 0 (length ps)) h in
+      let l = has-below (length ps) p .0 b in
+      ⊎-elim (λ i. rw (in-way p (placeAt ps p .way) {w = w} i .0) l) (λ i. rw (back-way p (placeAt ps p .mark) {w = w} i .0) l)
+      (List·Memᴰ·append-cases (wayIn p (placeAt ps p .way)) k)
+
+  -- a move that is named is there
+  abbrev There : Ref → Type 0
+  There r = (t : ℕ) → r ≡ ref.At t → t < length (x .moves)
+
+  way-move : (w : Way) → w .place < length (x .places) → There (moveNo (x .places) w)
+  way-move w h t = go (w .back)
+    where
+      into : (p : ℕ) → p < length (x .places) → placeAt (x .places) p .way ≡ ref.At t → t < length (x .moves)
+      into zero h e = let z : _≡_ {A = ℕ} 0 1 = cc (facts c s .start) in absurd (omega arith)
+      into (suc p) h e =
+          let (u, q, l) = facts c s .ways (suc p) (omega arith) h in
+          let r : u ≡ t = cc in
+          omega arith
+
+      go : (b : Bool) → cond b (backOf (placeAt (x .places) (w .place) .mark)) (placeAt (x .places) (w .place) .way) ≡ ref.At t → t < length (x .moves)
+      go true = facts c s .backs (w .place) t h
+      go false = into (w .place) h
+
+  number-small : (r : Ref) → There r → judge.numberOf r < roomOf kind.Move
+  number-small ref.None k = lit< tt
+  number-small (ref.At t) k = omega (arith, k t refl, held kind.Move)
+
+  guards-small : (r : Ref) → There r → All (λ g. g < roomOf kind.Guard) (guardsOf (moveAt (x .moves) r))
+  unfolding moveAt
+  guards-small ref.None k = none
+  guards-small (ref.At t) k = all-map (λ g l. omega (arith, held kind.Guard)) (facts c s .guards t (k t refl))
+
+  -- what is found is in range
+  abbrev WayFits : Way → Type 0
+  WayFits w = (w .place < roomOf kind.Place) × (judge.numberOf (moveNo (x .places) w) < roomOf kind.Move)
+
+  abbrev TestFits : Test → Type 0
+  TestFits t = (t .way .place < roomOf kind.Place) × (t .guard < roomOf kind.Guard)
+
+  abbrev MarkFits : Mark → Type 0
+  MarkFits k = (k .place < roomOf kind.Place) × (k .sentence < roomOf kind.Sentence)
+
+  ways-fit : All WayFits (waysOf x)
+  ways-fit =
+      has-all (waysOf x) (λ w h.
+      let p = way-place w h in
+      (omega (arith, held kind.Place), number-small (moveNo (x .places) w) (way-move w p)))
+
+  tests-fit : All TestFits (testsOf x)
+  tests-fit =
+      all-pairs {C = Test} (λ w g. record { way = w; guard = g }) (λ w. guardsOf (moveOf x w)) (waysOf x) .1
+      (λ w g h k.
+      let p = way-place w h in
+      (omega (arith, held kind.Place), all-has (guards-small (moveNo (x .places) w) (way-move w p)) k))
+
+  marks-fit : All MarkFits (marksOf x)
+  marks-fit = all-marks x .1 (λ i p a b. (omega (arith, held kind.Place), omega (arith, held kind.Sentence)))
+
+  by-tests : (f s r : Bool) {w : Found Way} {t : Found Test} {k : Found Mark} → Of WayFits w → Of TestFits t → Of MarkFits k →
+      Listed (numbersOf (judge.answerBy x f s w t k r))
+  by-tests false s r a b d = unfinished within
+  by-tests true false r a b d = wrong-start
+  by-tests true true r (one a) b d = unconnected (a .0) (a .1)
+  by-tests true true r no-one (one b) d = guard-fails (b .0) (b .1)
+  by-tests true true r no-one no-one (one d) = wrong-mark (d .0) (d .1)
+  by-tests true true false no-one no-one no-one = root-unmarked {i = root x} (omega (arith, held kind.Sentence))
+  by-tests true true true no-one no-one no-one = accepted
+
+  -- the answer of a judgement is listed
+  judged : Listed (numbersOf (verdict x zeros))
+  unfolding verdict
+  judged =
+      by-tests (finished x) (eqb (stateOf x 0) 0) (marked x (root x) 0)
+      (found (connects x) ways-fit) (found (passes x zeros) tests-fit) (found (right x zeros) marks-fit)
+
+-- ---- a file
+
+-- the answer to a run over records rs, where the case c holds the m records taken before
+from-here : (rs : List (List ℕ)) (c : Case) (m : ℕ) → Sound c → m ≡ size (itemsOf c) → Listed (answerBy (runFrom c m rs))
+unfolding runFrom
+from-here [] c m s e = judged c s
+from-here (b ∷ rs) c m s e =
+    let t = takenOf c b in
+    cond-by (λ (r : Run). Listed (answerBy r)) (isTaken (t .answer)) {x = runFrom (t .case) (m + 1) rs} {y = record { case = t .case; answer = t .answer; taken = m }}
+    (λ h. from-here rs (t .case) (m + 1) (sound-kept c b s) (omega (arith, size-more c b rs (taken-with c b h) (sound-is-kept s))))
+    (λ h. rw h
+    (⊎-elim (λ k. absurd (true≢false (sym (k .0) ∙ h))) (λ k. refused (itemsOf c) b m (omega (arith, within c s)) (t .answer) (k .applies))
+    (answers c b s)))
+
+-- every file gets one of the listed results
+pub listed : (bs : List ℕ) → Listed (answerOf bs)
+unfolding answerOf runOf
+listed bs = from-here (cut bs) emptyCase 0 sound-empty (unfold emptyCase in refl)

@@ -1,0 +1,87 @@
+-- A file with a record to which a refusal applies is answered the first refusal of the first such record. Assumes nothing.
+use mathlib.Core.Path.{_≡_, refl, _∙_, sym, ap, subst}
+use mathlib.Core.Logic.{_⊎_, inl, inr, ⊎-elim}
+use mathlib.Core.List.{List, [], _∷_, _++_, append-nil}
+use mathlib.Core.Bool.{Bool, true, false, true≢false}
+use Prim.Native.Nat.{ℕ, zero, suc, _+_, _<_}
+use native.Mathlib.Omega.{arith}
+use lib.ListN.{length, getD, take}
+use lib.Seq.{append-snoc}
+use Rattle.integer.specs.Tests.{cond-by}
+use Rattle.faults.specs.declared.Answer.{Answer}
+use Rattle.faults.specs.Answers.{numberOf, fieldOf}
+use Rattle.plan.specs.declared.Case.{Case}
+use Rattle.plan.specs.declared.Run.{Run}
+use Rattle.plan.specs.Cases.{emptyCase, itemsOf}
+use Rattle.plan.specs.Taking.{isTaken, takenOf, runFrom, runOf, cut}
+use Rattle.rules.specs.Rules.{Applies, IsFirst}
+use Rattle.rules.specs.Files.{rowsOf, spelledBy}
+use Rattle.rules.specs.Sound.{Sound}
+use Rattle.rules.specs.Stages.{refuses}
+use Rattle.rules.specs.Kept.{sound-empty, sound-kept}
+use Rattle.rules.specs.Theorems.{answers}
+use Rattle.meaning.specs.Judged.{Numbers}
+use Rattle.meaning.specs.Files.{AllTaken}
+use Rattle.meaning.specs.AllTaken.{spelled-more, all-taken}
+use Rattle.casefile.specs.Answer.{answerOf}
+
+-- of the records rs that come after the records ps, record k is the first to which a refusal applies, and a is the first that does
+pub record Refused (ps rs : List (List ℕ)) (k : ℕ) (a : Answer) : Type 0 where
+  pub there : k < length rs
+  pub before : (j : ℕ) → j < k → (b : Answer) → Applies (spelledBy (ps ++ take j rs)) (getD rs j []) b → ⊥
+  pub first : IsFirst (spelledBy (ps ++ take k rs)) (getD rs k []) a
+
+-- the numbers of a refusal: its result, the record and the field
+abbrev pub refusal : ℕ → Answer → Numbers
+refusal k a = record { result = numberOf a; second = k; third = fieldOf a }
+
+module _ (ps rs : List (List ℕ)) (b : List ℕ) where
+  -- record b is taken, and a later one refused
+  later : (k : ℕ) (a : Answer) → ((w : Answer) → Applies (spelledBy ps) b w → ⊥) → Refused (ps ++ (b ∷ [])) rs k a → Refused ps (b ∷ rs) (suc k) a
+  later k a none r =
+      record {
+        there = omega (arith, r .there);
+        before =
+            λ j. elim j [
+              | zero ↦ λ h. subst (λ l. (w : Answer) → Applies (spelledBy l) b w → ⊥) (sym (append-nil ps)) none
+              | suc i ↦ λ h. subst (λ l. (w : Answer) → Applies (spelledBy l) (getD rs i []) w → ⊥) (append-snoc ps b (take i rs)) (r .before i (omega arith))
+            ];
+        first = subst (λ l. IsFirst (spelledBy l) (getD rs k []) a) (append-snoc ps b (take k rs)) (r .first);
+      }
+
+  -- it is refused
+  now : (a : Answer) → IsFirst (spelledBy ps) b a → Refused ps (b ∷ rs) 0 a
+  now a f =
+      record {
+        there = omega arith;
+        before = λ j h. absurd (omega arith);
+        first = subst (λ l. IsFirst (spelledBy l) b a) (sym (append-nil ps)) f;
+      }
+
+-- a run over records that ends with a refusal
+stops : (rs ps : List (List ℕ)) (c : Case) (m : ℕ) → Sound c → itemsOf c ≡ spelledBy ps → isTaken (runFrom c m rs .answer) ≡ false →
+    (k : ℕ) × Refused ps rs k (runFrom c m rs .answer) × (runFrom c m rs .taken ≡ m + k)
+unfolding runFrom
+stops [] ps c m s e = λ h. absurd (true≢false h)
+stops (b ∷ rs) ps c m s e =
+    let t = takenOf c b in
+    let by = subst (λ x. ((isTaken (t .answer) ≡ true) × ((a : Answer) → Applies x b a → ⊥)) ⊎ IsFirst x b (t .answer)) e (answers c b s) in
+    cond-by (λ (r : Run). isTaken (r .answer) ≡ false → (k : ℕ) × Refused ps (b ∷ rs) k (r .answer) × (r .taken ≡ m + k)) (isTaken (t .answer))
+    {x = runFrom (t .case) (m + 1) rs} {y = record { case = t .case; answer = t .answer; taken = m }}
+    (λ w h.
+    let (k, r, n) = stops rs (ps ++ (b ∷ [])) (t .case) (m + 1) (sound-kept c b s) (spelled-more c ps b s e w) h in
+    let none = ⊎-elim (λ y. y .1) (λ f. absurd (true≢false (sym w ∙ refuses (spelledBy ps) b (t .answer) (f .applies)))) by in
+    (suc k, later ps rs b k _ none r, omega (arith, n)))
+    (λ w h. (0, now ps rs b (t .answer) (⊎-elim (λ y. absurd (true≢false (sym (y .0) ∙ w))) (λ f. f) by), omega arith))
+
+-- all records of a file are taken, or it is answered the first refusal of the first that is not
+pub file-refused : (bs : List ℕ) → AllTaken (cut bs) ⊎ ((k : ℕ) × (a : Answer) × Refused [] (cut bs) k a × (answerOf bs ≡ refusal k a))
+unfolding answerOf runOf emptyCase rowsOf
+file-refused bs = go (isTaken (runOf emptyCase bs .answer)) refl
+  where
+    go : (t : Bool) → isTaken (runOf emptyCase bs .answer) ≡ t → AllTaken (cut bs) ⊎ ((k : ℕ) × (a : Answer) × Refused [] (cut bs) k a × (answerOf bs ≡ refusal k a))
+    go true e = inl (all-taken bs .1 e)
+    go false e =
+        let (k, r, n) = stops (cut bs) [] emptyCase 0 sound-empty refl e in
+        let m : runOf emptyCase bs .taken ≡ k = omega (arith, n) in
+        inr (k, runOf emptyCase bs .answer, r, rw e (ap (λ i. refusal i (runOf emptyCase bs .answer)) m))

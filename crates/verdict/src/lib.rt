@@ -1,0 +1,29 @@
+// The answer of a judgement as a computation whose cost doesn't depend on the number of rounds, and the theorem that it is the one answer that the
+// meaning leaves. Definitions and theorems stand in specs/; here are the types that the code will share with them.
+
+// Whether something is true in every round of a place, in none, or in some only.
+pub enum Throughout {
+    Always,
+    Never,
+    Changes,
+}
+
+// Rounds, counted from 0: none, those up to a last one, or all.
+pub enum Rounds {
+    None,
+    UpTo(u32),
+    Ever,
+}
+
+// The best sum that an until can reach from a moment: none, a number, or one as great as you like.
+pub enum Best {
+    None,
+    Sum(i64),
+    Any,
+}
+
+// The best sums at a place: in its first round and in its last.
+pub struct Front {
+    pub first: Best,
+    pub last: Best,
+}
