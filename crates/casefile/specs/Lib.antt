@@ -3,7 +3,8 @@ pub mod Line
 pub mod Listed
 pub mod Bounded
 pub mod Lines
+pub mod Whole
 pub mod Refused
-pub mod Accepts
+pub mod Taken
 pub mod Demands
 pub mod Starred

@@ -34,10 +34,11 @@ use Rattle.casefile.specs.Line.{lineOf}
 abbrev pub Row : Type 0
 Row = List String × String
 
--- the lines of the files of a table, as they are answered and as they should be
+-- the lines that the files of a table are answered
 abbrev pub answered : List Row → List (List ℕ)
 answered rows = map (λ (r : Row). lineOf (answerOf (bytesOf (r .0)))) rows
 
+-- and those that document 01 gives
 abbrev pub expected : List Row → List (List ℕ)
 expected rows = map (λ (r : Row). bytesOf (r .1 ∷ [])) rows
 

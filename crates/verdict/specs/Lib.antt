@@ -12,4 +12,3 @@ pub mod Search
 pub mod Forms
 pub mod Judge
 pub mod Theorems
-pub mod Examples

@@ -1,30 +1,19 @@
--- What a file is answered, by the meaning: a file whose records are all taken gets the numbers of the one answer that its case is judged, and the result
--- is 0 exactly where the file is accepted. Assumes nothing.
+-- What a file is answered, by the meaning: where its records are all taken, the numbers of the one answer that its case is judged; and the result is 0 exactly
+-- where the file is accepted. Assumes nothing.
 use mathlib.Core.Path.{_≡_, refl, _∙_, sym, ap, subst}
-use mathlib.Core.Logic.{_↔_, Iff·trans}
+use mathlib.Core.Logic.{_↔_, Iff·trans, ⊎-elim}
 use mathlib.Core.List.{List, map}
-use mathlib.Core.Bool.{true, cond}
-use Prim.Native.Nat.{ℕ, _+_, _*_, _-_, _≤_}
-use native.Mathlib.Omega.{arith}
+use mathlib.Core.Bool.{true, cond, true≢false}
+use Prim.Native.Nat.{ℕ}
 use lib.Dec.{eqb}
-use lib.IntN.{ℤ}
-use lib.ListN.{length, take, drop, length-take, length-drop}
 use borrow.Author.Tests.{eq-eqb}
-use Rattle.integer.specs.Tests.{cond-by}
-use Rattle.integer.specs.Tab.{at-tab}
-use Rattle.record.specs.declared.Content.the-variants.{Number}
-use Rattle.record.specs.Spell.{spell}
-use Rattle.record.specs.Layout.{width, fields, recordLength, fieldAt, recordOf}
-use Rattle.spelling.specs.Spelled.{one-spelling}
 use Rattle.kinds.specs.declared.Kind.{Kind}
 use Rattle.items.specs.Items.{rowOf}
-use Rattle.faults.specs.Answers.{numberOf, fieldOf}
-use Rattle.plan.specs.declared.Run.{Run}
+use Rattle.faults.specs.Answers.{numberOf}
 use Rattle.plan.specs.Cases.{emptyCase, itemsOf, listOf}
 use Rattle.plan.specs.Taking.{isTaken, runOf, cut}
-use Rattle.rules.specs.Rules.{contentAt}
 use Rattle.rules.specs.Files.{rowsOf, spelled}
-use Rattle.rules.specs.Stages.{known}
+use Rattle.rules.specs.Stages.{known, refuses}
 use Rattle.rules.specs.Theorems.{sound, spelled-case}
 use Rattle.meaning.specs.declared.Judgement.{Judgement}
 use Rattle.meaning.specs.declared.Judgement.the-variants.{Accepted, Unfinished, WrongStart, Unconnected, GuardFails, WrongMark, RootUnmarked}
@@ -34,22 +23,8 @@ use Rattle.meaning.specs.Files.{AllTaken, FileAccepted}
 use Rattle.meaning.specs.Theorems.{one-answer, zero-accepts, means, all-taken}
 use Rattle.verdict.specs.Verdict.{verdict}
 use Rattle.verdict.specs.Theorems.{judged}
-use Rattle.casefile.specs.Answer.{answerBy, answerOf}
-
--- ---- a field
-
--- the seven bytes of field f of a record, counted from 1
-abbrev pub bytesAt : List ℕ → ℕ → List ℕ
-bytesAt b f = take width (drop (1 + (f - 1) * width) b)
-
--- a field that is read as a number is the spelling of that number, in all its bytes
-pub whole-number : (b : List ℕ) → length b ≡ recordLength → (f : ℕ) → f ≤ fields → (z : ℤ) → contentAt b f ≡ Number z → bytesAt b f ≡ spell z
-unfolding recordOf fieldAt
-whole-number b l f h z e =
-    let s : ℕ = 1 + (f - 1) * width in
-    let n : length (bytesAt b f) ≡ width = omega (arith, length-take width (drop s b), length-drop s b) in
-    let i : 0 + (f - 1) ≡ f - 1 = omega arith in
-    one-spelling (bytesAt b f) z n (ap (λ k. fieldAt b k .content) (sym i) ∙ sym (ap (λ x. x .content) (at-tab (fieldAt b) fields 0 (f - 1) _ (omega arith))) ∙ e) .0
+use Rattle.casefile.specs.Answer.{answerOf}
+use Rattle.casefile.specs.Refused.{file-refused}
 
 -- ---- a file whose records are all taken
 
@@ -110,17 +85,12 @@ module _ (bs : List ℕ) (h : AllTaken (cut bs)) where
 
 -- ---- any file
 
--- a result 0 is no refusal's
-zero-taken : (r : Run) → answerBy r .result ≡ 0 → isTaken (r .answer) ≡ true
-zero-taken r =
-    cond-by (λ n. n .result ≡ 0 → isTaken (r .answer) ≡ true) (isTaken (r .answer)) {x = numbersOf (verdict (itemsOf (r .case)) zeros)}
-    {y = record { result = numberOf (r .answer); second = r .taken; third = fieldOf (r .answer) }}
-    (λ t z. t)
-    (λ t z. known (r .answer) .taken ∙ eq-eqb (numberOf (r .answer)) 0 z)
-
+-- the result is 0 exactly where the file is accepted: a refusal's is not
 pub file-accepts : (bs : List ℕ) → (answerOf bs .result ≡ 0) ↔ FileAccepted bs
-unfolding answerOf
 file-accepts bs = (
-  λ z. let t = all-taken bs .1 (zero-taken (runOf emptyCase bs) z) in record { taken = t; case = taken-accepts bs t .0 z },
+  λ z. ⊎-elim (λ t. record { taken = t; case = taken-accepts bs t .0 z })
+      (λ (k, a, r, e).
+      absurd (true≢false (sym (known a .taken ∙ eq-eqb (numberOf a) 0 (ap (λ n. n .result) (sym e) ∙ z)) ∙ refuses _ _ a (r .first .applies))))
+      (file-refused bs),
   λ a. taken-accepts bs (a .taken) .1 (a .case),
 )
