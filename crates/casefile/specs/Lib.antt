@@ -1,5 +1,4 @@
 pub mod Answer
-pub mod Line
 pub mod Listed
 pub mod Bounded
 pub mod Lines

@@ -1,11 +1,10 @@
--- What the line tells: its numbers, each below 1,000, in at most 12 bytes. Assumes nothing.
+-- What the line tells: its numbers, each below 1,000. Assumes nothing.
 use mathlib.Core.Path.{_≡_, refl, _∙_, sym, ap}
-use mathlib.Core.List.{List, [], _∷_, _++_}
-use Prim.Native.Nat.{ℕ, zero, suc, _-_, _/_, _%_, _^_, _≤_, _<_}
+use mathlib.Core.List.{List, _∷_, _++_}
+use Prim.Native.Nat.{ℕ, zero, suc, _-_, _/_, _^_, _≤_, _<_}
 use native.Mathlib.Omega.{arith}
 use lib.Dec.{ltb, lit<}
 use lib.IntN.{pos}
-use lib.ListN.{length, length-append}
 use Rattle.integer.specs.Tests.{cond-by}
 use Rattle.record.specs.declared.Content.the-variants.{Number}
 use Rattle.record.specs.Spelling.{space, digit, contentOf}
@@ -15,18 +14,11 @@ use Rattle.faults.specs.Input.{lineFeed}
 use Rattle.meaning.specs.Judged.{All, none, also, Numbers}
 use Rattle.meaning.specs.Given.{all-both}
 use Rattle.casefile.specs.Answer.{answerOf}
-use Rattle.casefile.specs.Line.{most, lineOf}
+use Rattle.line.specs.Line.{most, lineOf}
 use Rattle.casefile.specs.Listed as result
 use Rattle.casefile.specs.Listed.{Listed, listed}
 
 -- ---- the digits of one number
-
-numeral-short : (f n : ℕ) → length (numeral f n) ≤ f
-unfolding numeral
-numeral-short zero n = omega arith
-numeral-short (suc f) n =
-    cond-by (λ l. length l ≤ suc f) (ltb n 10) {x = digit n ∷ []} {y = numeral f (n / 10) ++ (digit (n % 10) ∷ [])} (λ e. omega arith)
-    (λ e. omega (arith, numeral-short f (n / 10), length-append (numeral f (n / 10)) (digit (n % 10) ∷ [])))
 
 -- a space and a line feed are below all digits
 abbrev IsDigit : ℕ → Type 0
@@ -75,13 +67,6 @@ line-tells m n h l e =
       second = numeral-apart (m .second) (n .second) (h .second) (l .second) b i;
       third = numeral-apart (m .third) (n .third) (h .third) (l .third) c i;
     }
-
--- a line has at most 12 bytes
-pub line-short : (n : Numbers) → length (lineOf n) ≤ 12
-unfolding lineOf
-line-short n =
-    simp length-append
-    (omega (arith, numeral-short most (n .result), numeral-short most (n .second), numeral-short most (n .third)))
 
 -- ---- the lines of files
 

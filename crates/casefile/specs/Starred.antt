@@ -28,7 +28,7 @@ use Rattle.verdict.specs.Forward.{ways, drift, base}
 use Rattle.verdict.specs.Best.{greater, step, chain, whole, power, limit, front}
 use Rattle.verdict.specs.Verdict.{formThrough, firstNot, verdict}
 use Rattle.casefile.specs.Answer.{answerOf}
-use Rattle.casefile.specs.Line.{lineOf}
+use Rattle.line.specs.Line.{lineOf}
 
 -- a file, and the line that it is answered
 abbrev pub Row : Type 0

@@ -1,8 +1,10 @@
 pub mod Order
 pub mod Signed
 pub mod Sums
+pub mod Sizes
 pub mod Tests
 pub mod Cases
 pub mod Lists
 pub mod Tab
 pub mod Lowest
+pub mod Down

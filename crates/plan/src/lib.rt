@@ -61,7 +61,7 @@ pub struct Run {
 }
 
 // Whether an answer says that the record is taken.
-fn is_taken(answer: Answer) -> bool
+pub fn is_taken(answer: Answer) -> bool
     ensures { λ r. ⌜ r ≡ isTaken answer ⌝ }
 {
     match answer {

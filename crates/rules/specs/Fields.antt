@@ -241,7 +241,7 @@ module _ (c2 c3 c4 c5 c6 c7 c8 : Content) where
   again kind.Place = place-again
 
 -- a list by its elements
-tab-again : {A : Type 0} (d : A) (r : List A) (n : ℕ) → length r ≡ n → tab n 0 (λ j. getD r j d) ≡ r
+pub tab-again : {A : Type 0} (d : A) (r : List A) (n : ℕ) → length r ≡ n → tab n 0 (λ j. getD r j d) ≡ r
 tab-again {A} d r n l =
     let g : ℕ → A = λ j. getD r j d in
     ext-getD d (tab n 0 g) r (length-tab g n 0 ∙ sym l) (λ j h.

@@ -3,6 +3,7 @@ ghost use mathlib.Core.Path.{_≡_};
 ghost use Rattle.faults.specs.Answers.{numberOf, fieldOf};
 ghost use Rattle.plan.specs.Cases.{emptyCase};
 ghost use Rattle.plan.specs.Taking.{runOf};
+ghost use Rattle.casefile.specs.Answer.{answerOf};
 ghost use Rattle.testing.specs.Held.{marksAt};
 use plan::Case;
 use plan::Run;
@@ -53,4 +54,26 @@ pub extern "C" fn marks_held(src: &[u8], i: usize) -> u32
     let k = i % Case::PLACES;
     let place = case.places[k];
     place.marks
+}
+
+// The three numbers of the answer to a file.
+#[no_mangle]
+pub extern "C" fn case_result(src: &[u8]) -> usize
+    ensures { λ r. ⌜ r ≡ answerOf (now (src .entry)) .result ⌝ }
+{
+    casefile::answer(src).result
+}
+
+#[no_mangle]
+pub extern "C" fn case_second(src: &[u8]) -> usize
+    ensures { λ r. ⌜ r ≡ answerOf (now (src .entry)) .second ⌝ }
+{
+    casefile::answer(src).second
+}
+
+#[no_mangle]
+pub extern "C" fn case_third(src: &[u8]) -> usize
+    ensures { λ r. ⌜ r ≡ answerOf (now (src .entry)) .third ⌝ }
+{
+    casefile::answer(src).third
 }

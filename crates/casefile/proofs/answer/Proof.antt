@@ -1,0 +1,85 @@
+-- The records of the file are taken; where one is refused the run says it all, and else the case, which is sound, is judged. Assumes nothing.
+use mathlib.Core.Path.{_≡_, _∙_, sym, ap, ap₂}
+use mathlib.Core.List.{List}
+use Prim.Native.Nat.{ℕ}
+use lib.ListN.{take}
+use Rattle.line.specs.declared.Told.{Told}
+use Rattle.line.specs.Line.{toldOf}
+use Rattle.plan.specs.Cases.{emptyCase}
+use Rattle.plan.specs.Taking.{runOf}
+use Rattle.rules.specs.Theorems.{sound}
+use Rattle.meaning.specs.Judged.{numbersOf}
+use Rattle.casefile.specs.Answer.{answerBy, answerOf}
+use Rattle.casefile.specs.Bounded.{enough, bounded}
+use borrow.Author.Needs.{needs}
+use Rattle.casefile.proofs.answer.Statement.{statement}
+use Rattle.casefile.proofs.answer.Tie as tie
+
+-- the run is the file's
+run-of : (c : tie.After-take-all) → c .take-all .result ≡ runOf emptyCase (c .before .before .before .args .bytes .now)
+run-of c = c .take-all .ensures ∙ ap (λ e. runOf e (c .before .before .before .args .bytes .now)) (c .before .empty .ensures)
+
+-- so is the answer by it, and by the first bytes
+answer-by : (c : tie.After-take-all) {r : Told} → let bs = c .before .before .before .args .bytes .now in
+    r ≡ toldOf (answerBy (c .take-all .result)) → (r ≡ toldOf (answerOf bs)) × (r ≡ toldOf (answerOf (take enough bs)))
+unfolding answerOf
+answer-by c e =
+    let t = e ∙ ap (λ r. toldOf (answerBy r)) (run-of c) in
+    (t, t ∙ ap toldOf (sym (bounded _)))
+
+empty-requires : tie.Need-empty-requires
+empty-requires c κs = search needs
+
+take-all-requires : tie.Need-take-all-requires
+take-all-requires c κs = search needs
+
+is-taken-requires : tie.Need-is-taken-requires
+is-taken-requires c κs = search needs
+
+judge-requires : tie.Need-judge-requires
+judge-requires c κs = rw (run-of (c .before .before)) (sound _)
+
+told-requires : tie.Need-told-requires
+told-requires c κs = search needs
+
+returns : tie.Need-returns
+returns c =
+    let i = c .before .before in
+    answer-by (i .before .before)
+    (simp (sym (i .before .is-taken .ensures), i .if1 .taken) (c .told .ensures ∙ ap (λ j. toldOf (numbersOf j)) (c .before .judge .ensures)))
+
+number-requires : tie.Need-number-requires
+number-requires c κs = search needs
+
+cast-t8 : tie.Need-cast-t8
+cast-t8 c = search needs
+
+field-requires : tie.Need-field-requires
+field-requires c κs = search needs
+
+cast-t10 : tie.Need-cast-t10
+cast-t10 c = search needs
+
+returns-2 : tie.Need-returns-2
+returns-2 c =
+    let e = c .before .before in
+    let r = e .before .before .take-all .result in
+    answer-by (e .before .before)
+    (simp (sym (e .before .is-taken .ensures), e .if1 .left)
+    (ap₂ (λ n f. toldOf (record { result = n; second = r .taken; third = f })) (c .before .number .ensures) (c .field .ensures)))
+
+pub answer-spec : {M : Type 1} → statement M
+answer-spec =
+    tie.close
+    (tie.spec
+    empty-requires
+    take-all-requires
+    is-taken-requires
+    judge-requires
+    told-requires
+    returns
+    number-requires
+    cast-t8
+    field-requires
+    cast-t10
+    returns-2)

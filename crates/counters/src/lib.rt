@@ -1,0 +1,102 @@
+// A value for each counter: sums, differences, multiples, and the sum of coefficient times counter.
+ghost use mathlib.Core.Path.{_≡_};
+ghost use Prim.Native.Nat.{ℕ, _+_, _*_, _<_, _^_};
+ghost use lib.IntN.{pos, _+ℤ_, _-ℤ_, _*ℤ_};
+ghost use Rattle.integer.specs.Sizes.{size};
+ghost use Rattle.kinds.specs.Table.{counters};
+ghost use Rattle.meaning.specs.Run.{sum};
+ghost use Rattle.counters.specs.Vectors.{at, vec};
+ghost use Rattle.counters.specs.Bounds.{sizes};
+use kinds::PerCounter;
+
+// A value for each counter.
+pub struct Counters {
+    pub at: [i64; PerCounter::COUNT],
+}
+
+// All 0.
+pub fn zero() -> Counters
+    ensures { λ r. ⌜ r .at ≡ vec (λ j. pos 0) ⌝ }
+{
+    Counters {
+        at: [0i64; PerCounter::COUNT],
+    }
+}
+
+// The numbers of an item, as values.
+pub fn widened(u: PerCounter) -> Counters
+    ensures { λ r. ⌜ r .at ≡ u .at ⌝ }
+{
+    let x = u.at;
+    let mut each = [0i64; PerCounter::COUNT];
+    let mut j: usize = 0;
+    while j < PerCounter::COUNT {
+        each[j] = x[j] as i64;
+        j = j + 1;
+    }
+    Counters { at: each }
+}
+
+// The sum, counter by counter.
+pub fn plus(a: Counters, b: Counters) -> Counters
+    requires { ⌜ ((j : ℕ) → j < counters → size (at a j) + size (at b j) < 2 ^ 63) ⌝ }
+    ensures { λ r. ⌜ r .at ≡ vec (λ j. at a j +ℤ at b j) ⌝ }
+{
+    let x = a.at;
+    let y = b.at;
+    let mut each = [0i64; PerCounter::COUNT];
+    let mut j: usize = 0;
+    while j < PerCounter::COUNT {
+        each[j] = x[j] + y[j];
+        j = j + 1;
+    }
+    Counters { at: each }
+}
+
+// The difference, counter by counter.
+pub fn minus(a: Counters, b: Counters) -> Counters
+    requires { ⌜ ((j : ℕ) → j < counters → size (at a j) + size (at b j) < 2 ^ 63) ⌝ }
+    ensures { λ r. ⌜ r .at ≡ vec (λ j. at a j -ℤ at b j) ⌝ }
+{
+    let x = a.at;
+    let y = b.at;
+    let mut each = [0i64; PerCounter::COUNT];
+    let mut j: usize = 0;
+    while j < PerCounter::COUNT {
+        each[j] = x[j] - y[j];
+        j = j + 1;
+    }
+    Counters { at: each }
+}
+
+// n times each.
+pub fn times(n: u32, a: Counters) -> Counters
+    requires { ⌜ ((j : ℕ) → j < counters → n * size (at a j) < 2 ^ 63) ⌝ }
+    ensures { λ r. ⌜ r .at ≡ vec (λ j. pos n *ℤ at a j) ⌝ }
+{
+    let x = a.at;
+    let k = n as i64;
+    let mut each = [0i64; PerCounter::COUNT];
+    let mut j: usize = 0;
+    while j < PerCounter::COUNT {
+        each[j] = k * x[j];
+        j = j + 1;
+    }
+    Counters { at: each }
+}
+
+// The sum of coefficient times counter.
+pub fn dot(c: PerCounter, v: Counters) -> i64
+    requires { ⌜ sizes (c .at) (at v) < 2 ^ 63 ⌝ }
+    ensures { λ r. ⌜ r ≡ sum (c .at) (at v) ⌝ }
+{
+    let x = c.at;
+    let y = v.at;
+    let mut total: i64 = 0;
+    let mut j: usize = 0;
+    while j < PerCounter::COUNT {
+        total = total + (x[j] as i64) * y[j];
+        j = j + 1;
+    }
+    total
+}

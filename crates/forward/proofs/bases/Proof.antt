@@ -1,0 +1,250 @@
+-- The loop adds what the ways and the rounds before each place add. Assumes nothing.
+use borrow.Author.Needs.{needs}
+use mathlib.Core.Path.{_≡_, refl, sym, _∙_, ap}
+use mathlib.Core.List.{List, []}
+use Prim.Native.Nat.{ℕ, _+_, _-_, _*_, _≤_, _<_}
+use native.Mathlib.Omega.{arith}
+use lib.IntN.{ℤ, pos, _+ℤ_, _*ℤ_}
+use lib.ListN.{getD, set}
+use Rattle.integer.specs.Sizes.{mul-size}
+use Rattle.integer.specs.Tab.{Filled, fill-none, fill-all}
+use Rattle.kinds.specs.declared.Kind.the-variants as kind
+use Rattle.plan.specs.Cases.{Items, itemsOf, roomOf}
+use Rattle.meaning.specs.Run.{stretch}
+use Rattle.meaning.specs.Judged.{zeros}
+use Rattle.meaning.specs.Given.{facts}
+use Rattle.verdict.specs.Rounds.{firstOf, loopOf}
+use Rattle.verdict.specs.Forward.{ways, drift, repeats, base}
+use Rattle.counters.specs.declared.Counters.{Counters}
+use Rattle.forward.specs.Tables.{vecOf}
+use Rattle.forward.specs.Entries.{fill-next, first-at, values-at, Has, has, values-same, of-one, of-two, both-small}
+use Rattle.forward.specs.Sums.{roundsBefore, base-is, rounds-done, rounds-kept}
+use Rattle.forward.specs.Sizes.{ways-size, times-size, rounds-before-size}
+use Rattle.forward.specs.Stretches.{first-below, mark-is, end-is, end-in}
+use Rattle.forward.proofs.bases.Statement.{statement}
+use Rattle.forward.proofs.bases.Tie as tie
+
+abbrev Inv-loop : tie.InvT-loop
+Inv-loop c f w d at₀ r₀ p₀ at r p =
+    (p ≤ roomOf kind.Place)
+    × (r ≡ vecOf (λ j. roundsBefore (itemsOf c) j p))
+    × Filled (λ q. vecOf (λ j. base (itemsOf c) zeros j q)) (roomOf kind.Place) at p
+
+abbrev μ-loop : tie.MeasureT-loop
+μ-loop c f w d at₀ r₀ p₀ at r p = roomOf kind.Place - p
+
+module _ (i : tie.In-loop Inv-loop μ-loop) where
+  abbrev l : tie.At-loop Inv-loop μ-loop
+  l = i .before
+
+  abbrev t : tie.Start Inv-loop μ-loop
+  t = l .before .before .before
+
+  -- the items, and the place that is filled
+  abbrev x : Items
+  x = itemsOf (t .args .t1)
+
+  abbrev p : ℕ
+  p = l .loop .p
+
+  -- the first place of its stretch, and as it is read
+  abbrev q : ℕ
+  q = firstOf (x .places) p
+
+  abbrev read : ℕ
+  read = getD (t .args .t2 .at) p 0
+
+  below : p < roomOf kind.Place
+  below = i .loop-test .taken
+
+  read-is : read ≡ q
+  read-is = first-at (x .places) (t .pre .1) p below
+
+  read-below : read < roomOf kind.Place
+  read-below = first-below (t .pre .0) p below read-is
+
+  -- what the ways up to it and the rounds before it add, and what a round of its stretch adds
+  ways-have : Has (getD (t .args .t3 .at) p (record { at = [] })) (λ j. ways x j p)
+  ways-have = has _ (values-at (ways x) (t .pre .2) p (record { at = [] }) below)
+
+  rounds-have : Has (l .loop .r) (λ j. roundsBefore x j p)
+  rounds-have = has _ (l .loop .inv .1)
+
+  drift-has : Has (getD (t .args .t4 .at) p (record { at = [] })) (λ j. drift x j q)
+  drift-has = has _ (values-at (λ j n. drift x j (firstOf (x .places) n)) (t .pre .3) p (record { at = [] }) below)
+
+filled : (c : tie.After-plus Inv-loop μ-loop) →
+    let i = c .before .before .before in
+    c .plus .result ≡ vecOf (λ j. base (x i) zeros j (p i))
+filled c =
+    let i = c .before .before .before in
+    of-two (ways-have i) (rounds-have i) _+ℤ_ (c .plus .ensures) ∙ values-same _ _ (λ j h. sym (base-is (x i) j (p i)))
+
+-- the turn of the loop that n names, and where the stretch ends
+module _ (c : tie.After-stretch Inv-loop μ-loop) where
+  abbrev a : tie.After-plus Inv-loop μ-loop
+  a = c .before .before .before
+
+  abbrev n : tie.In-loop Inv-loop μ-loop
+  n = a .before .before .before
+
+  ends : read n + c .stretch .result ≡ q n + stretch (loopOf (x n .places) (p n))
+  ends = end-is (t n .pre .0) (p n) (below n) (read-is n) (c .stretch .ensures)
+
+  next : Filled (λ m. vecOf (λ j. base (x n) zeros j m)) (roomOf kind.Place) (set (l n .loop .at) (p n) (a .plus .result)) (p n + 1)
+  next = fill-next _ (roomOf kind.Place) (l n .loop .at) (p n) (filled a) (below n) (l n .loop .inv .2)
+
+module _ (c : tie.After-repeats Inv-loop μ-loop) where
+  abbrev e : tie.In-loop Inv-loop μ-loop
+  e = n (c .before .before)
+
+  -- how often the stretch is gone through again
+  abbrev times : ℕ
+  times = repeats (loopOf (x e .places) (p e))
+
+  times-are : c .repeats .result ≡ times
+  times-are = c .repeats .ensures ∙ ap repeats (mark-is (t e .pre .0) (p e) (below e) (read-is e))
+
+added-have : (c : tie.After-times Inv-loop μ-loop) →
+    let r = c .before in
+    Has (c .times .result) (λ j. pos (times r) *ℤ drift (x (e r)) j (q (e r)))
+added-have c =
+    let r = c .before in
+    has _
+    (of-one (drift-has (e r)) (λ z. pos (r .repeats .result) *ℤ z) (c .times .ensures)
+    ∙ ap (λ m. vecOf (λ j. pos m *ℤ drift (x (e r)) j (q (e r)))) (times-are r))
+
+zero-requires : tie.Need-zero-requires Inv-loop μ-loop
+zero-requires c κs = search needs
+
+zero-requires-2 : tie.Need-zero-requires-2 Inv-loop μ-loop
+zero-requires-2 c κs = search needs
+
+loop-holds : tie.Need-loop-holds Inv-loop μ-loop
+unfolding roundsBefore
+loop-holds c =
+    (omega arith, ap (λ (a : List ℤ). record { at = a }) (c .zero2 .ensures), fill-none _ (roomOf kind.Place) _ refl)
+
+mul-x : tie.Need-mul-x Inv-loop μ-loop
+mul-x c = search needs
+
+element-copy-out-x : tie.Need-element-copy-out-x Inv-loop μ-loop
+element-copy-out-x c = search needs
+
+mul-y : tie.Need-mul-y Inv-loop μ-loop
+mul-y c = search needs
+
+element-copy-out-y : tie.Need-element-copy-out-y Inv-loop μ-loop
+element-copy-out-y c = search needs
+
+plus-requires : tie.Need-plus-requires Inv-loop μ-loop
+plus-requires c κs =
+    let i = c .before .before in
+    let f = facts _ (t i .pre .0) in
+    both-small (ways-have i) (rounds-have i) (λ j. omega (arith, ways-size f j (p i), rounds-before-size f j (p i) (omega arith)))
+
+mul-at : tie.Need-mul-at Inv-loop μ-loop
+mul-at c = search needs
+
+array-set-from-at : tie.Need-array-set-from-at Inv-loop μ-loop
+array-set-from-at c = search needs
+
+element-copy-out-q : tie.Need-element-copy-out-q Inv-loop μ-loop
+element-copy-out-q c = search needs
+
+cast-q : tie.Need-cast-q Inv-loop μ-loop
+cast-q c = record { fits = omega (arith, read-below (c .before .before .before .before)) }
+
+mul-place : tie.Need-mul-place Inv-loop μ-loop
+mul-place c = record { fits = omega (arith, read-below (c .before .before .before .before)) }
+
+element-copy-out-place : tie.Need-element-copy-out-place Inv-loop μ-loop
+element-copy-out-place c = read-below (c .before .before .before .before)
+
+add-p : tie.Need-add-p Inv-loop μ-loop
+add-p c = search needs
+
+stretch-requires : tie.Need-stretch-requires Inv-loop μ-loop
+stretch-requires c κs = search needs
+
+add-if1 : tie.Need-add-if1 Inv-loop μ-loop
+add-if1 c =
+    let i = n c in
+    record { fits = omega (arith, end-in (t i .pre .0) (p i) (below i) (read-is i) (c .stretch .ensures)) }
+
+repeats-requires : tie.Need-repeats-requires Inv-loop μ-loop
+repeats-requires c κs = search needs
+
+times-requires : tie.Need-times-requires Inv-loop μ-loop
+times-requires c κs =
+    let i = e c in
+    λ j h. rw (drift-has i .each j h, times-are c) (omega (arith, times-size (facts _ (t i .pre .0)) j (p i) (below i)))
+
+plus-requires-2 : tie.Need-plus-requires-2 Inv-loop μ-loop
+plus-requires-2 c κs =
+    let r = c .before in
+    let i = e r in
+    let f = facts _ (t i .pre .0) in
+    both-small (rounds-have i) (added-have c)
+    (λ j.
+    omega
+    (arith, rounds-before-size f j (p i) (omega arith), mul-size (pos (times r)) (drift (x i) j (q i)), times-size f j (p i) (below i)))
+
+loop-less : tie.Need-loop-less Inv-loop μ-loop
+loop-less c = search needs
+
+loop-again : tie.Need-loop-again Inv-loop μ-loop
+loop-again c =
+    let s = c .before .before .before .before in
+    let i = n s in (
+      omega arith,
+      of-two (rounds-have i) (added-have (c .before)) _+ℤ_ (c .plus2 .ensures)
+          ∙ values-same _ _ (λ j h. sym (rounds-done (x i) j (p i) (omega (arith, ends s)))),
+      next s,
+    )
+
+loop-less-2 : tie.Need-loop-less-2 Inv-loop μ-loop
+loop-less-2 c = search needs
+
+loop-again-2 : tie.Need-loop-again-2 Inv-loop μ-loop
+loop-again-2 c =
+    let s = c .before in
+    let i = n s in
+    (omega arith, l i .loop .inv .1 ∙ values-same _ _ (λ j h. sym (rounds-kept (x i) j (p i) (omega (arith, ends s)))), next s)
+
+returns : tie.Need-returns Inv-loop μ-loop
+returns c =
+    let m = c .before .loop in
+    ap (λ (a : List Counters). record { at = a }) (fill-all _ (roomOf kind.Place) (m .at) (m .p) (omega arith) (m .inv .2))
+
+pub bases-spec : {M : Type 1} → statement M
+bases-spec =
+    tie.close
+    (tie.spec
+    Inv-loop
+    μ-loop
+    zero-requires
+    zero-requires-2
+    loop-holds
+    mul-x
+    element-copy-out-x
+    mul-y
+    element-copy-out-y
+    plus-requires
+    mul-at
+    array-set-from-at
+    element-copy-out-q
+    cast-q
+    mul-place
+    element-copy-out-place
+    add-p
+    stretch-requires
+    add-if1
+    repeats-requires
+    times-requires
+    plus-requires-2
+    loop-less
+    loop-again
+    loop-less-2
+    loop-again-2
+    returns)

@@ -1,0 +1,232 @@
+-- The loop fills the drifts: from the sums of the ways at both ends of the stretch, and the back move. Assumes nothing.
+use borrow.Author.Needs.{needs}
+use mathlib.Core.Path.{_≡_, refl, _∙_, ap}
+use mathlib.Core.Logic.{⊎-elim}
+use mathlib.Core.List.{List, []}
+use Prim.Native.Nat.{ℕ, _+_, _-_, _≤_, _<_}
+use native.Mathlib.Omega.{arith}
+use lib.IntN.{ℤ, _-ℤ_}
+use lib.ListN.{getD}
+use Rattle.integer.specs.Tab.{Filled, fill-none, fill-all}
+use Rattle.kinds.specs.declared.Kind.the-variants as kind
+use Rattle.items.specs.declared.Ref.{Ref}
+use Rattle.plan.specs.Cases.{Items, itemsOf, roomOf}
+use Rattle.meaning.specs.Run.{stretch, backOf}
+use Rattle.meaning.specs.Given.{facts}
+use Rattle.verdict.specs.Rounds.{firstOf, loopOf}
+use Rattle.verdict.specs.Forward.{ways, drift}
+use Rattle.counters.specs.declared.Counters.{Counters}
+use Rattle.forward.specs.Tables.{vecOf, slotOf}
+use Rattle.forward.specs.Entries.{fill-next, first-at, values-at, Has, has, of-two, both-small}
+use Rattle.forward.specs.Moves.{more, more-small, no-more}
+use Rattle.forward.specs.Sums.{waysWithin}
+use Rattle.forward.specs.Sizes.{ends-size, stretch-size}
+use Rattle.forward.specs.Stretches.{first-below, mark-is, end-is, end-in}
+use Rattle.forward.proofs.drifts.Statement.{statement}
+use Rattle.forward.proofs.drifts.Tie as tie
+
+abbrev Inv-loop : tie.InvT-loop
+Inv-loop c f w at₀ p₀ at p =
+    (p ≤ roomOf kind.Place) × Filled (λ q. vecOf (λ j. drift (itemsOf c) j (firstOf (itemsOf c .places) q))) (roomOf kind.Place) at p
+
+abbrev μ-loop : tie.MeasureT-loop
+μ-loop c f w at₀ p₀ at p = roomOf kind.Place - p
+
+module _ (i : tie.In-loop Inv-loop μ-loop) where
+  abbrev t : tie.Start Inv-loop μ-loop
+  t = i .before .before .before
+
+  -- the items, and the place that is filled
+  abbrev x : Items
+  x = itemsOf (t .args .t1)
+
+  abbrev p : ℕ
+  p = i .before .loop .p
+
+  -- the first place of its stretch, and as it is read
+  abbrev q : ℕ
+  q = firstOf (x .places) p
+
+  abbrev read : ℕ
+  read = getD (t .args .t2 .at) p 0
+
+  below : p < roomOf kind.Place
+  below = i .loop-test .taken
+
+  read-is : read ≡ q
+  read-is = first-at (x .places) (t .pre .1) p below
+
+  read-below : read < roomOf kind.Place
+  read-below = first-below (t .pre .0) p below read-is
+
+module _ (c : tie.After-stretch Inv-loop μ-loop) where
+  abbrev i : tie.In-loop Inv-loop μ-loop
+  i = c .before .before .before
+
+  -- the place after the stretch, as it is worked out
+  ends : (1 ≤ read i + c .stretch .result) × (read i + c .stretch .result ≤ roomOf kind.Place)
+  ends = end-in (t i .pre .0) (p i) (below i) (read-is i) (c .stretch .ensures)
+
+  -- the sums of the ways at both ends, as they are read
+  abbrev sumAt : ℕ → Counters
+  sumAt n = getD (t i .args .t3 .at) n (record { at = [] })
+
+  last-has : Has (sumAt (read i + c .stretch .result - 1)) (λ j. ways (x i) j (q i + stretch (loopOf (x i .places) (p i)) - 1))
+  last-has =
+      has _
+      (values-at (ways (x i)) (t i .pre .2) (read i + c .stretch .result - 1) (record { at = [] }) (omega (arith, ends))
+      ∙ ap (λ n. vecOf (λ j. ways (x i) j (n - 1))) (end-is (t i .pre .0) (p i) (below i) (read-is i) (c .stretch .ensures)))
+
+  first-has : Has (sumAt (read i)) (λ j. ways (x i) j (q i))
+  first-has =
+      has _
+      (values-at (ways (x i)) (t i .pre .2) (read i) (record { at = [] }) (read-below i) ∙ ap (λ n. vecOf (λ j. ways (x i) j n)) (read-is i))
+
+module _ (c : tie.After-back-slot Inv-loop μ-loop) where
+  abbrev b : tie.After-stretch Inv-loop μ-loop
+  b = c .before .before .before .before
+
+  -- the back move
+  abbrev back : Ref
+  back = backOf (loopOf (x (i b) .places) (p (i b)))
+
+  slot-is : c .back-slot .result ≡ slotOf back
+  slot-is = c .back-slot .ensures ∙ ap (λ m. slotOf (backOf m)) (mark-is (t (i b) .pre .0) (p (i b)) (below (i b)) (read-is (i b)))
+
+  -- what the ways within the stretch add
+  abbrev within : ℕ → ℤ
+  within j = waysWithin (x (i b)) j (q (i b))
+
+  within-is : c .before .minus .result ≡ vecOf within
+  within-is = of-two (last-has b) (first-has b) _-ℤ_ (c .before .minus .ensures)
+
+filled : (c : tie.Joined1 Inv-loop μ-loop) →
+    let j = i (b (c .before)) in
+    c .if1 .d ≡ vecOf (λ n. drift (x j) n (q j))
+unfolding drift
+filled c =
+    let a = c .before in
+    let k = i (b a) in
+    ⊎-elim
+    (λ w. w .5 ∙ more (t k .pre .0) (back a) (slot-is a) (within a) (within-is a) _ (w .0 .taken) (w .3 .ensures) (w .4 .ensures))
+    (λ w. w .1 ∙ no-more (t k .pre .0) (back a) (slot-is a) (within a) (within-is a) (w .0 .left))
+    (c .if1 .came)
+
+zero-requires : tie.Need-zero-requires Inv-loop μ-loop
+zero-requires c κs = search needs
+
+loop-holds : tie.Need-loop-holds Inv-loop μ-loop
+loop-holds c = (omega arith, fill-none _ (roomOf kind.Place) _ refl)
+
+element-copy-out-q : tie.Need-element-copy-out-q Inv-loop μ-loop
+element-copy-out-q c = search needs
+
+cast-q : tie.Need-cast-q Inv-loop μ-loop
+cast-q c = search needs
+
+mul-place : tie.Need-mul-place Inv-loop μ-loop
+mul-place c = record { fits = omega (arith, read-below (c .before)) }
+
+element-copy-out-place : tie.Need-element-copy-out-place Inv-loop μ-loop
+element-copy-out-place c = read-below (c .before)
+
+stretch-requires : tie.Need-stretch-requires Inv-loop μ-loop
+stretch-requires c κs = search needs
+
+add-e : tie.Need-add-e Inv-loop μ-loop
+add-e c = record { fits = omega (arith, ends c) }
+
+sub-e : tie.Need-sub-e Inv-loop μ-loop
+sub-e c = ends c .0
+
+mul-x : tie.Need-mul-x Inv-loop μ-loop
+mul-x c = record { fits = omega (arith, ends c) }
+
+element-copy-out-x : tie.Need-element-copy-out-x Inv-loop μ-loop
+element-copy-out-x c = omega (arith, ends c)
+
+mul-y : tie.Need-mul-y Inv-loop μ-loop
+mul-y c = record { fits = omega (arith, read-below (c .before .before .before .before)) }
+
+element-copy-out-y : tie.Need-element-copy-out-y Inv-loop μ-loop
+element-copy-out-y c = read-below (c .before .before .before .before)
+
+minus-requires : tie.Need-minus-requires Inv-loop μ-loop
+minus-requires c κs =
+    let b = c .before .before in
+    let k = i b in
+    both-small (last-has b) (first-has b)
+    (λ j. omega (arith, ends-size (facts _ (t k .pre .0)) j (q k) (omega (arith, read-below k, read-is k))))
+
+back-slot-requires : tie.Need-back-slot-requires Inv-loop μ-loop
+back-slot-requires c κs = search needs
+
+mul-m : tie.Need-mul-m Inv-loop μ-loop
+mul-m c = search needs
+
+element-copy-out-m : tie.Need-element-copy-out-m Inv-loop μ-loop
+element-copy-out-m c = search needs
+
+widened-requires : tie.Need-widened-requires Inv-loop μ-loop
+widened-requires c κs = search needs
+
+plus-requires : tie.Need-plus-requires Inv-loop μ-loop
+plus-requires c κs =
+    let a = c .before .before .before .before in
+    let k = i (b a) in
+    more-small (t k .pre .0) (back a) (slot-is a) (within a) (within-is a) _ (c .before .before .before .if1 .taken) (c .widened .ensures)
+    (λ j. omega (arith, stretch-size (facts _ (t k .pre .0)) j (q k) (omega (arith, read-below k, read-is k))))
+
+mul-at : tie.Need-mul-at Inv-loop μ-loop
+mul-at c = search needs
+
+array-set-from-at : tie.Need-array-set-from-at Inv-loop μ-loop
+array-set-from-at c = search needs
+
+add-p : tie.Need-add-p Inv-loop μ-loop
+add-p c = search needs
+
+loop-less : tie.Need-loop-less Inv-loop μ-loop
+loop-less c = search needs
+
+loop-again : tie.Need-loop-again Inv-loop μ-loop
+loop-again c =
+    let m = i (b (c .before)) .before .loop in
+    (omega arith, fill-next _ (roomOf kind.Place) (m .at) (m .p) (filled c) (omega arith) (m .inv .1))
+
+returns : tie.Need-returns Inv-loop μ-loop
+returns c =
+    let m = c .before .loop in
+    ap (λ (a : List Counters). record { at = a }) (fill-all _ (roomOf kind.Place) (m .at) (m .p) (omega arith) (m .inv .1))
+
+pub drifts-spec : {M : Type 1} → statement M
+drifts-spec =
+    tie.close
+    (tie.spec
+    Inv-loop
+    μ-loop
+    zero-requires
+    loop-holds
+    element-copy-out-q
+    cast-q
+    mul-place
+    element-copy-out-place
+    stretch-requires
+    add-e
+    sub-e
+    mul-x
+    element-copy-out-x
+    mul-y
+    element-copy-out-y
+    minus-requires
+    back-slot-requires
+    mul-m
+    element-copy-out-m
+    widened-requires
+    plus-requires
+    mul-at
+    array-set-from-at
+    add-p
+    loop-less
+    loop-again
+    returns)

@@ -1,0 +1,51 @@
+-- The tables of judging: entry p of each is the definition at place p, for every place that a case has room for.
+use mathlib.Core.List.{List}
+use Prim.Native.Nat.{ℕ}
+use lib.IntN.{ℤ}
+use Rattle.integer.specs.Tab.{tab}
+use Rattle.kinds.specs.declared.Kind.the-variants as kind
+use Rattle.items.specs.declared.Ref.{Ref}
+use Rattle.items.specs.declared.Ref.the-variants as ref
+use Rattle.items.specs.declared.Place.{Place}
+use Rattle.plan.specs.Cases.{Items, roomOf}
+use Rattle.meaning.specs.Judged.{zeros}
+use Rattle.verdict.specs.Rounds.{firstOf}
+use Rattle.verdict.specs.Forward.{ways, drift, base}
+use Rattle.counters.specs.declared.Counters.{Counters}
+use Rattle.counters.specs.Vectors.{vec}
+use Rattle.forward.specs.declared.Firsts.{Firsts}
+use Rattle.forward.specs.declared.Table.{Table}
+use Rattle.forward.specs.declared.Tables.{Tables}
+
+-- a value for each counter
+abbrev pub vecOf : (ℕ → ℤ) → Counters
+vecOf f = record { at = vec f }
+
+-- the number of the move that a reference names, and one past the room for moves where it names none
+abbrev pub slotOf : Ref → ℕ
+slotOf ref.None = roomOf kind.Move
+slotOf (ref.At t) = t
+
+-- the first places
+abbrev pub firstsOf : List Place → Firsts
+firstsOf ps = record { at = tab (roomOf kind.Place) 0 (firstOf ps) }
+
+-- values for each counter j at each place p
+abbrev pub tableOf : (ℕ → ℕ → ℤ) → Table
+tableOf f = record { at = tab (roomOf kind.Place) 0 (λ (p : ℕ). vecOf (λ j. f j p)) }
+
+-- what the ways into the places up to each add
+abbrev pub waysOf : Items → Table
+waysOf x = tableOf (ways x)
+
+-- what a round of each place's stretch adds
+abbrev pub driftsOf : Items → Table
+driftsOf x = tableOf (λ j p. drift x j (firstOf (x .places) p))
+
+-- the counters of each place in its first round
+abbrev pub basesOf : Items → Table
+basesOf x = tableOf (base x zeros)
+
+-- all of them
+abbrev pub tablesOf : Items → Tables
+tablesOf x = record { firsts = firstsOf (x .places); drifts = driftsOf x; bases = basesOf x }

@@ -1,0 +1,22 @@
+-- A guard that is there, and isn't met. Assumes nothing.
+use borrow.Author.Needs.{needs}
+use Rattle.judge.proofs.misses.Statement.{statement}
+use Rattle.judge.proofs.misses.Tie as tie
+
+enum-told : tie.Need-enum-told
+enum-told c = search needs
+
+enum-told-2 : tie.Need-enum-told-2
+enum-told-2 c = search needs
+
+met-requires : tie.Need-met-requires
+met-requires c κs = search needs
+
+returns : tie.Need-returns
+returns c = search needs
+
+returns-2 : tie.Need-returns-2
+returns-2 c = rw (c .met .ensures, c .before .enum-told2 .given .1)
+
+pub misses-spec : {M : Type 1} → statement M
+misses-spec = tie.close (tie.spec enum-told enum-told-2 met-requires returns returns-2)

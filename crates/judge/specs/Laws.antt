@@ -1,0 +1,105 @@
+-- The search through a list that is gathered number by number. Assumes nothing.
+use mathlib.Core.Path.{_≡_, refl, _∙_, sym, ap, ap₂}
+use mathlib.Core.List.{List, [], _∷_, _++_, append-assoc}
+use mathlib.Core.Bool.{Bool, true, false, cond, not, _&&_}
+use Prim.Native.Nat.{ℕ, zero, suc, _+_, _-_, _*_, _/_, _%_, _≤_, _<_}
+use native.Mathlib.Numerals.{add-one}
+use native.Mathlib.Omega.{arith}
+use borrow.Author.Tests.{eq-eqb, ne-eqb}
+use lib.Dec.{eqb}
+use Rattle.meaning.specs.Judged.{from, gather}
+use Rattle.verdict.specs.Verdict.{Found, nowhere, at, firstNot}
+
+-- f, where it found something, else g
+abbrev pub orElse : {A : Type 0} → Found A → Found A → Found A
+orElse nowhere g = g
+orElse (at a) g = at a
+
+first-both : {A : Type 0} (ok : A → Bool) (l m : List A) → firstNot ok (l ++ m) ≡ orElse (firstNot ok l) (firstNot ok m)
+unfolding firstNot
+first-both ok [] m = refl
+first-both {A} ok (a ∷ l) m = by (ok a) (first-both ok l m)
+  where
+    by : (t : Bool) → firstNot ok (l ++ m) ≡ orElse (firstNot ok l) (firstNot ok m) →
+        elim t [ true ↦ firstNot ok (l ++ m) | false ↦ at a ] ≡ orElse (elim t [ true ↦ firstNot ok l | false ↦ at a ]) (firstNot ok m)
+    by true e = e
+    by false e = refl
+
+-- number k gives the list f k
+module _ {A : Type 0} (ok : A → Bool) (f : ℕ → List A) (n : ℕ) where
+  -- what the search finds among the numbers from k up to n
+  unfoldable pub found : ℕ → Found A
+  found k = firstNot ok (gather f (from k (n - k)))
+
+  pub found-start : firstNot ok (gather f (from 0 n)) ≡ found 0
+  unfolding found
+  found-start = let e : n ≡ n - 0 = omega arith in ap (λ d. firstNot ok (gather f (from 0 d))) e
+
+  pub found-turn : (k : ℕ) → k < n → found k ≡ orElse (firstNot ok (f k)) (found (k + 1))
+  unfolding found gather from
+  found-turn k h = let e : n - k ≡ suc (n - suc k) = omega arith in rw (e, add-one) (first-both ok (f k) (gather f (from (suc k) (n - suc k))))
+
+  pub found-end : (k : ℕ) → n ≤ k → found k ≡ nowhere
+  unfolding found gather from firstNot
+  found-end k h = let e : n - k ≡ 0 = omega arith in rw e
+
+-- ---- one element or none
+
+-- an element that is there or not
+abbrev pub listed : {A : Type 0} → Bool → A → List A
+listed true a = a ∷ []
+listed false a = []
+
+-- number k gives a k, where it is there
+abbrev pub each : {A : Type 0} → (ℕ → Bool) → (ℕ → A) → ℕ → List A
+each there a k = listed (there k) (a k)
+
+module _ {A : Type 0} (ok : A → Bool) (there : ℕ → Bool) (a : ℕ → A) (n : ℕ) where
+  -- number k fails the test
+  abbrev pub fails : ℕ → Bool
+  fails k = there k && not (ok (a k))
+
+  one-first : (k : ℕ) → firstNot ok (each there a k) ≡ cond (fails k) (at (a k)) nowhere
+  unfolding firstNot
+  one-first k = by (there k) (ok (a k)) refl
+    where
+      by : (t u : Bool) → ok (a k) ≡ u → firstNot ok (listed t (a k)) ≡ cond (t && not u) (at (a k)) nowhere
+      by true true e = rw e
+      by true false e = rw e
+      by false u e = refl
+
+  -- where b tells whether it fails: it is found, or passed over
+  pub found-here : (k : ℕ) {b : Bool} → k < n → b ≡ fails k → b ≡ true → found ok (each there a) n k ≡ at (a k)
+  found-here k h e t = found-turn ok (each there a) n k h ∙ rw (one-first k, sym e ∙ t)
+
+  pub found-later : (k : ℕ) {b : Bool} → k < n → b ≡ fails k → b ≡ false → found ok (each there a) n k ≡ found ok (each there a) n (k + 1)
+  found-later k h e t = found-turn ok (each there a) n k h ∙ rw (one-first k, sym e ∙ t)
+
+-- ---- lists that are gathered
+
+-- two numbers for one
+module _ {A : Type 0} (f : ℕ → List A) (g : ℕ → Bool → List A) (two : (k : ℕ) → f k ≡ g k false ++ g k true) where
+  pub gather-two : (s n : ℕ) → gather f (from s n) ≡ gather (λ (k : ℕ). g (k / 2) (eqb (k % 2) 1)) (from (2 * s) (2 * n))
+  unfolding gather from
+  gather-two s zero = refl
+  gather-two s (suc n) =
+      let h : ℕ → List A = λ k. g (k / 2) (eqb (k % 2) 1) in
+      let a : 2 * suc n ≡ suc (suc (2 * n)) = omega arith in
+      let b : suc (suc (2 * s)) ≡ 2 * suc s = omega arith in
+      let p : s ≡ 2 * s / 2 = omega arith in
+      let q : s ≡ suc (2 * s) / 2 = omega arith in
+      let even : g s false ≡ h (2 * s) = ap₂ g p (sym (ne-eqb (2 * s % 2) 1 (λ z. omega arith))) in
+      let odd : g s true ≡ h (suc (2 * s)) = ap₂ g q (sym (eq-eqb (suc (2 * s) % 2) 1 (omega arith))) in
+      rw (a, b) (ap₂ _++_ (two s ∙ ap₂ _++_ even odd) (gather-two (suc s) n) ∙ append-assoc (h (2 * s)) (h (suc (2 * s))) (gather h (from (2 * suc s) (2 * n))))
+
+module _ {A B : Type 0} (g : A → List B) where
+  gather-both : (l m : List A) → gather g (l ++ m) ≡ gather g l ++ gather g m
+  unfolding gather
+  gather-both [] m = refl
+  gather-both (a ∷ l) m = ap (λ k. g a ++ k) (gather-both l m) ∙ sym (append-assoc (g a) (gather g l) (gather g m))
+
+  -- what is gathered from what is gathered
+  pub gather-gather : (f : ℕ → List A) (l : List ℕ) → gather g (gather f l) ≡ gather (λ (k : ℕ). gather g (f k)) l
+  unfolding gather
+  gather-gather f [] = refl
+  gather-gather f (k ∷ l) = gather-both (f k) (gather f l) ∙ ap (λ m. gather g (f k) ++ m) (gather-gather f l)

@@ -1,0 +1,7 @@
+pub mod Told
+pub mod Laws
+pub mod Ways
+pub mod Tests
+pub mod Sums
+pub mod Marks
+pub mod Stages

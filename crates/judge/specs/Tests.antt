@@ -1,0 +1,165 @@
+-- The guards on the ways of a plan by number: test k is on way k / 2, the first guard of its move where k is even, and the second where k is odd.
+-- Assumes nothing.
+use mathlib.Core.Path.{_≡_, refl, _∙_, ap}
+use mathlib.Core.List.{List, [], _++_, map}
+use mathlib.Core.Bool.{Bool, true, false, cond}
+use Prim.Native.Nat.{ℕ, _*_, _/_, _%_, _≤_, _<_}
+use native.Mathlib.Omega.{arith}
+use lib.Dec.{eqb}
+use lib.ListN.{length, getD}
+use Rattle.kinds.specs.declared.Kind.the-variants as kind
+use Rattle.items.specs.declared.Ref.{Ref}
+use Rattle.items.specs.declared.Ref.the-variants as ref
+use Rattle.items.specs.declared.Guard.{Guard}
+use Rattle.items.specs.declared.Move.{Move}
+use Rattle.plan.specs.declared.Case.{Case}
+use Rattle.plan.specs.Cases.{Items, itemsOf, noItem, roomOf}
+use Rattle.rules.specs.Sound.{Sound}
+use Rattle.rules.specs.Held.{counted}
+use Rattle.meaning.specs.Run.{Way, moveNo, moveAt, moveOf, guardAt, named, guardsOf}
+use Rattle.meaning.specs.Judged.{All, none, also, zeros, from, gather, Test, testsOf}
+use Rattle.meaning.specs.Facts.{Facts}
+use Rattle.meaning.specs.Given.{facts}
+use Rattle.verdict.specs.declared.Rounds.the-variants as rounds
+use Rattle.verdict.specs.Rounds.{firstOf, roundsOf, later, roundsBy}
+use Rattle.verdict.specs.Forward.{drift, base}
+use Rattle.verdict.specs.Verdict.{Found, firstNot, passes, numberOf}
+use Rattle.counters.specs.declared.Counters.{Counters}
+use Rattle.forward.specs.declared.Tables.{Tables}
+use Rattle.forward.specs.Tables.{vecOf, tablesOf}
+use Rattle.forward.specs.Reads.{at-places, at-moves, at-guards}
+use Rattle.forward.specs.Entries.{first-at, values-at}
+use Rattle.forward.specs.Stretches.{first-below, mark-is}
+use Rattle.judge.specs.Told.{isNamed, given}
+use Rattle.judge.specs.Laws.{found, found-start, listed, each, gather-two, gather-gather}
+use Rattle.judge.specs.Ways.{wayNo, isWay, ways-listed, move-held, move-below}
+
+-- one of the two guards of a move
+abbrev pub guardBy : Bool → Move → Ref
+guardBy second m = cond second (m .guard2) (m .guard1)
+
+-- ---- all tests
+
+both-listed : {A : Type 0} (f : ℕ → A) (a b : Ref) → map f (named a ++ named b) ++ [] ≡ listed (isNamed a) (f (numberOf a)) ++ listed (isNamed b) (f (numberOf b))
+both-listed f ref.None ref.None = refl
+both-listed f ref.None (ref.At m) = refl
+both-listed f (ref.At n) ref.None = refl
+both-listed f (ref.At n) (ref.At m) = refl
+
+module _ (x : Items) where
+  -- a guard on a way
+  abbrev guardOn : Way → Bool → Ref
+  guardOn w second = guardBy second (moveOf x w)
+
+  -- as a test
+  abbrev testOn : Way → Bool → Test
+  testOn w second = record { way = w; guard = numberOf (guardOn w second) }
+
+  -- the tests of a way
+  abbrev testsOn : Way → List Test
+  testsOn w = map (λ g. record { way = w; guard = g }) (guardsOf (moveOf x w))
+
+  on-way : (w : Way) → gather testsOn (listed (isNamed (moveNo (x .places) w)) w)
+      ≡ listed (isNamed (guardOn w false)) (testOn w false) ++ listed (isNamed (guardOn w true)) (testOn w true)
+  unfolding gather moveAt
+  on-way w = by (moveNo (x .places) w) refl
+    where
+      test : ℕ → Test
+      test g = record { way = w; guard = g }
+
+      by : (r : Ref) →
+          let m = moveAt (x .moves) r in
+          testsOn w ≡ map test (guardsOf m) →
+          gather testsOn (listed (isNamed r) w) ≡ listed (isNamed (m .guard1)) (test (numberOf (m .guard1))) ++ listed (isNamed (m .guard2)) (test (numberOf (m .guard2)))
+      by ref.None e = refl
+      by (ref.At t) e = ap (λ k. k ++ []) e ∙ both-listed test (moveAt (x .moves) (ref.At t) .guard1) (moveAt (x .moves) (ref.At t) .guard2)
+
+  -- the guard of test k, whether it is there, and test k
+  abbrev pub guardNo : ℕ → Ref
+  guardNo k = guardOn (wayNo (k / 2)) (eqb (k % 2) 1)
+
+  abbrev pub isTest : ℕ → Bool
+  isTest k = isNamed (guardNo k)
+
+  abbrev pub testNo : ℕ → Test
+  testNo k = testOn (wayNo (k / 2)) (eqb (k % 2) 1)
+
+  tests-listed : testsOf x ≡ gather (each isTest testNo) (from 0 (4 * length (x .places)))
+  tests-listed =
+      let n = length (x .places) in
+      let e : 2 * (2 * n) ≡ 4 * n = omega arith in
+      ap (gather testsOn) (ways-listed x)
+      ∙ gather-gather testsOn (each (isWay x) wayNo) (from 0 (2 * n))
+      ∙ gather-two (λ k. gather testsOn (each (isWay x) wayNo k)) (λ k b. listed (isNamed (guardOn (wayNo k) b)) (testOn (wayNo k) b)) (λ k. on-way (wayNo k)) 0 (2 * n)
+      ∙ ap (λ m. gather (each isTest testNo) (from 0 m)) e
+
+  -- what the search for a guard that fails finds from test k on
+  abbrev pub testsFrom : ℕ → Found Test
+  testsFrom = found (passes x zeros) (each isTest testNo) (4 * length (x .places))
+
+  pub tests-start : firstNot (passes x zeros) (testsOf x) ≡ testsFrom 0
+  tests-start = ap (firstNot (passes x zeros)) tests-listed ∙ found-start (passes x zeros) (each isTest testNo) (4 * length (x .places))
+
+-- ---- what the code reads of test k
+
+-- a guard of the move that a reference names
+by-number : (ts : List Move) (r : Ref) (second : Bool) → given r (guardBy second (getD ts (numberOf r) (noItem kind.Move))) ≡ guardBy second (moveAt ts r)
+unfolding moveAt
+by-number ts ref.None true = refl
+by-number ts ref.None false = refl
+by-number ts (ref.At t) second = refl
+
+-- a guard of a move is one of the guards, of which there is room for m
+one-below : (a b : Ref) (second : Bool) {n m : ℕ} → All (λ g. g < n) (named a ++ named b) → 0 < m → n ≤ m → numberOf (cond second b a) < m
+one-below ref.None b false h z l = z
+one-below (ref.At u) b false (also g h) z l = omega arith
+one-below a ref.None true h z l = z
+one-below ref.None (ref.At u) true (also g h) z l = omega arith
+one-below (ref.At v) (ref.At u) true (also f (also g h)) z l = omega arith
+
+guards-held : {x : Items} → Facts x → (r : Ref) → ((t : ℕ) → r ≡ ref.At t → t < length (x .moves)) → All (λ g. g < length (x .guards)) (guardsOf (moveAt (x .moves) r))
+unfolding moveAt
+guards-held f ref.None h = none
+guards-held f (ref.At t) h = f .guards t (h t refl)
+
+module _ {c : Case} (s : Sound c) (k : ℕ) (h : k < 4 * c .count .places) where
+  -- its items
+  abbrev x : Items
+  x = itemsOf c
+
+  -- the move of its way
+  abbrev r : Ref
+  r = moveNo (x .places) (wayNo (k / 2))
+
+  pub guard-read : (d : Move) → given r (guardBy (eqb (k % 2) 1) (getD (c .moves) (numberOf r) d)) ≡ guardNo x k
+  guard-read d = rw (at-moves s (numberOf r) d (move-below s (k / 2) (omega arith))) (by-number (x .moves) r (eqb (k % 2) 1))
+
+  pub guard-below : numberOf (guardNo x k) < roomOf kind.Guard
+  guard-below =
+      let m = moveAt (x .moves) r in
+      one-below (m .guard1) (m .guard2) (eqb (k % 2) 1) (guards-held (facts c s) r (move-held s (k / 2) (omega arith))) (omega arith) (omega (arith, counted c s kind.Guard, s .room kind.Guard))
+
+  pub guard-at : (d : Guard) {n : ℕ} → n ≡ numberOf (guardNo x k) → getD (c .guards) n d ≡ guardAt (x .guards) (numberOf (guardNo x k))
+  guard-at d e = ap (λ n. getD (c .guards) n d) e ∙ at-guards s (numberOf (guardNo x k)) d guard-below
+
+-- ---- what the code reads of place p in the tables
+
+module _ {c : Case} (s : Sound c) {t : Tables} (e : t ≡ tablesOf (itemsOf c)) (p : ℕ) (h : p < roomOf kind.Place) where
+  first-is : getD (t .firsts .at) p 0 ≡ firstOf (itemsOf c .places) p
+  first-is = first-at (itemsOf c .places) (ap (λ (t : Tables). t .firsts) e) p h
+
+  pub first-within : getD (t .firsts .at) p 0 < roomOf kind.Place
+  first-within = first-below s p h first-is
+
+  pub base-at : (d : Counters) → getD (t .bases .at) p d ≡ vecOf (λ j. base (itemsOf c) zeros j p)
+  base-at d = values-at (base (itemsOf c) zeros) (ap (λ (t : Tables). t .bases) e) p d h
+
+  pub drift-at : (d : Counters) → getD (t .drifts .at) p d ≡ vecOf (λ j. drift (itemsOf c) j (firstOf (itemsOf c .places) p))
+  drift-at d = values-at (λ j q. drift (itemsOf c) j (firstOf (itemsOf c .places) q)) (ap (λ (t : Tables). t .drifts) e) p d h
+
+  pub rounds-at : (back : Bool) →
+      let q = getD (t .firsts .at) p 0 in
+      let own = getD (c .places) p (noItem kind.Place) .mark in
+      let around = getD (c .places) q (noItem kind.Place) .mark in
+      cond back (later (roundsOf own)) (cond (eqb q p) (rounds.UpTo 0) (roundsOf around)) ≡ roundsBy (itemsOf c .places) (record { place = p; back = back })
+  rounds-at back = rw (at-places s p, mark-is s p h first-is, first-is)

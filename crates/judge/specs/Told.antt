@@ -1,0 +1,40 @@
+-- What a search found, as the code tells it: the place, and the number of the move, the guard or the sentence.
+use mathlib.Core.Bool.{Bool, true, false}
+use Rattle.items.specs.declared.Ref.{Ref}
+use Rattle.items.specs.declared.Ref.the-variants as ref
+use Rattle.plan.specs.Cases.{Items}
+use Rattle.meaning.specs.Run.{Way, moveNo}
+use Rattle.meaning.specs.Judged.{Test, Mark}
+use Rattle.verdict.specs.Verdict.{Found, nowhere, at, numberOf}
+use Rattle.judge.specs.declared.Search.{Search}
+use Rattle.judge.specs.declared.Search.the-variants.{Nowhere, At}
+
+-- a way, with its move
+abbrev pub toldWay : Items → Found Way → Search
+toldWay x nowhere = Nowhere
+toldWay x (at w) = At (record { 0 = w .place }) (numberOf (moveNo (x .places) w))
+
+-- a guard on a way
+abbrev pub toldTest : Found Test → Search
+toldTest nowhere = Nowhere
+toldTest (at t) = At (record { 0 = t .way .place }) (t .guard)
+
+-- a sentence at a place
+abbrev pub toldMark : Found Mark → Search
+toldMark nowhere = Nowhere
+toldMark (at k) = At (record { 0 = k .place }) (k .sentence)
+
+-- whether a reference names something
+abbrev pub isNamed : Ref → Bool
+isNamed ref.None = false
+isNamed (ref.At n) = true
+
+-- q, where r names something
+abbrev pub given : Ref → Ref → Ref
+given ref.None q = ref.None
+given (ref.At n) q = q
+
+-- whether a search found something
+abbrev pub isFound : Search → Bool
+isFound Nowhere = false
+isFound (At p n) = true

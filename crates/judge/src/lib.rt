@@ -1,0 +1,401 @@
+// The judgement of a case: 24 and 31 to 35, each the first that applies.
+ghost use mathlib.Core.Path.{_≡_};
+ghost use mathlib.Core.Bool.{cond, not, _&&_};
+ghost use lib.Dec.{eqb, ltb};
+ghost use lib.IntN.{pos, _+ℤ_};
+ghost use Prim.Native.Nat.{_+_, _-_, _≤_, _<_, _^_};
+ghost use Rattle.integer.specs.Sizes.{size};
+ghost use Rattle.kinds.specs.declared.Kind.the-variants as kind;
+ghost use Rattle.plan.specs.Cases.{itemsOf, roomOf};
+ghost use Rattle.plan.specs.Taking.{isClosed};
+ghost use Rattle.rules.specs.Sound.{Sound};
+ghost use Rattle.meaning.specs.Run.{stretch, backOf};
+ghost use Rattle.meaning.specs.Judged.{zeros, waysOf, testsOf, marksOf};
+ghost use Rattle.verdict.specs.declared.Rounds.the-variants as rounds;
+ghost use Rattle.verdict.specs.Rounds.{roundsOf, later};
+ghost use Rattle.verdict.specs.Verdict.{firstNot, connects, passes, right, numberOf, isAlways, isNever, verdict};
+ghost use Rattle.forward.specs.Tables.{tablesOf};
+ghost use Rattle.throughs.specs.Throughs.{throughsOf};
+ghost use Rattle.judge.specs.Told.{toldWay, toldTest, toldMark, isNamed, given, isFound};
+ghost use Rattle.judge.specs.Tests.{guardBy};
+ghost use Rattle.judge.specs.Sums.{isMet, SumsFit};
+ghost use Rattle.judge.specs.Marks.{rowAt, formAt};
+ghost use Rattle.judge.specs.Stages.{held, orUnconnected, orGuardFails, orWrongMark, rootAnswer, marksAnswer, guardsAnswer};
+use counters::Counters;
+use forward::Tables;
+use items::Guard;
+use items::LoopMark;
+use items::Move;
+use items::Place;
+use items::Ref;
+use kinds::Counts;
+use meaning::Judgement;
+use plan::Case;
+use plan::Loops;
+use plan::PlaceNo;
+use throughs::Throughs;
+use verdict::Rounds;
+use verdict::Throughout;
+
+// What a search found: the place, and the number of the move, the guard or the sentence.
+pub enum Search {
+    Nowhere,
+    At(PlaceNo, u8),
+}
+
+// One less, and 0 for 0.
+fn one_less(n: usize) -> usize
+    ensures { λ r. ⌜ r ≡ n - 1 ⌝ }
+{
+    if n == 0 {
+        return 0;
+    }
+    n - 1
+}
+
+// The number of a reference, and 0 for none.
+fn number(r: Ref) -> u8
+    ensures { λ n. ⌜ n ≡ numberOf r ⌝ }
+{
+    match r {
+        Ref::None => 0,
+        Ref::At(n) => n,
+    }
+}
+
+// The back move of a loop.
+fn back_of(m: LoopMark) -> Ref
+    ensures { λ r. ⌜ r ≡ backOf m ⌝ }
+{
+    match m {
+        LoopMark::None => Ref::None,
+        LoopMark::Counted {
+            length: _,
+            rounds: _,
+            back,
+        } => Ref::At(back),
+        LoopMark::Endless { length: _, back } => Ref::At(back),
+    }
+}
+
+// The move of a way into a place: the back move of the loop that it begins, or the move into it.
+fn move_into(place: Place, back: bool) -> Ref
+    ensures { λ r. ⌜ r ≡ cond back (backOf (place .mark)) (place .way) ⌝ }
+{
+    if back {
+        let mark = place.mark;
+        return back_of(mark);
+    }
+    place.way
+}
+
+// The place that a way into place p comes from: the last place of the loop that p begins, or the place before.
+fn place_before(p: usize, mark: LoopMark, back: bool) -> usize
+    requires { ⌜ (1 ≤ stretch mark) × (p + stretch mark ≤ roomOf kind.Place) ⌝ }
+    ensures { λ q. ⌜ q ≡ cond back (p + stretch mark - 1) (p - 1) ⌝ }
+{
+    if back {
+        return p + lines::stretch(mark) - 1;
+    }
+    one_less(p)
+}
+
+// Whether there is a way whose move doesn't lead from one state to the other.
+fn breaks(r: Ref, m: Move, from: u8, to: u8) -> bool
+    ensures { λ t. ⌜ t ≡ (isNamed r && not (eqb (m .from) from && eqb (m .to) to)) ⌝ }
+{
+    match r {
+        Ref::None => false,
+        Ref::At(_) => {
+            if m.from == from {
+                return m.to != to;
+            }
+            true
+        }
+    }
+}
+
+// The first way that doesn't connect: by place, the way in before the back move.
+fn unconnected(c: Case) -> Search
+    requires { ⌜ Sound c ⌝ }
+    ensures { λ r. ⌜ r ≡ toldWay (itemsOf c) (firstNot (connects (itemsOf c)) (waysOf (itemsOf c))) ⌝ }
+{
+    let n = c.count.places;
+    let mut k: usize = 0;
+    while k < 2 * n {
+        let p = k / 2;
+        let back = k % 2 == 1;
+        let place = c.places[p];
+        let mark = place.mark;
+        let r = move_into(place, back);
+        let t = number(r);
+        let m = c.moves[t as usize];
+        let q = place_before(p, mark, back);
+        let before = c.places[q];
+        if breaks(r, m, before.state, place.state) {
+            return Search::At(PlaceNo(p), t);
+        }
+        k = k + 1;
+    }
+    Search::Nowhere
+}
+
+// One of the two guards of a move.
+fn guard_by(m: Move, second: bool) -> Ref
+    ensures { λ r. ⌜ r ≡ guardBy second m ⌝ }
+{
+    if second {
+        return m.guard2;
+    }
+    m.guard1
+}
+
+// q, where r names something.
+fn given(r: Ref, q: Ref) -> Ref
+    ensures { λ u. ⌜ u ≡ given r q ⌝ }
+{
+    match r {
+        Ref::None => Ref::None,
+        Ref::At(_) => q,
+    }
+}
+
+// The rounds in which a way into a place is taken: a back move in all but the first of the loop that the place begins; a way in once, where the place
+// begins a stretch, else in all rounds of the loop around it.
+fn rounds_by(back: bool, begins: bool, own: LoopMark, around: LoopMark) -> Rounds
+    ensures { λ r. ⌜ r ≡ cond back (later (roundsOf own)) (cond begins (rounds.UpTo 0) (roundsOf around)) ⌝ }
+{
+    if back {
+        return lines::later(lines::rounds_of(own));
+    }
+    if begins {
+        return Rounds::UpTo(0);
+    }
+    lines::rounds_of(around)
+}
+
+// The sum of a guard in the first round in which a way is taken: one round later for a back move.
+fn first_sum(a: i64, d: i64, back: bool) -> i64
+    requires { ⌜ size a + size d < 2 ^ 63 ⌝ }
+    ensures { λ r. ⌜ r ≡ a +ℤ cond back d (pos 0) ⌝ }
+{
+    if back {
+        return a + d;
+    }
+    a
+}
+
+// Whether a guard is met in all these rounds of a place, where its counters are those of the base in the first round, and each round adds the drift.
+fn met(g: Guard, base: Counters, drift: Counters, back: bool, rounds: Rounds) -> bool
+    requires { ⌜ SumsFit g base drift rounds ⌝ }
+    ensures { λ t. ⌜ t ≡ isMet g base drift back rounds ⌝ }
+{
+    let a = counters::dot(g.coefficients, base);
+    let d = counters::dot(g.coefficients, drift);
+    let first = first_sum(a, d, back);
+    lines::is_always(lines::through(first, d, g.bound as i64, rounds))
+}
+
+// Whether there is a guard and it isn't met.
+fn misses(q: Ref, g: Guard, base: Counters, drift: Counters, back: bool, rounds: Rounds) -> bool
+    requires { ⌜ SumsFit g base drift rounds ⌝ }
+    ensures { λ t. ⌜ t ≡ (isNamed q && not (isMet g base drift back rounds)) ⌝ }
+{
+    match q {
+        Ref::None => false,
+        Ref::At(_) => !met(g, base, drift, back, rounds),
+    }
+}
+
+// The first guard that fails when its way is taken: by place, the way in before the back move, the first guard of the move before the second.
+fn guard_fails(c: Case, t: Tables) -> Search
+    requires { ⌜ (Sound c) × (t ≡ tablesOf (itemsOf c)) ⌝ }
+    ensures { λ r. ⌜ r ≡ toldTest (firstNot (passes (itemsOf c) zeros) (testsOf (itemsOf c))) ⌝ }
+{
+    let n = c.count.places;
+    let firsts = t.firsts;
+    let drifts = t.drifts;
+    let bases = t.bases;
+    let mut k: usize = 0;
+    while k < 4 * n {
+        let w = k / 2;
+        let p = w / 2;
+        let back = w % 2 == 1;
+        let place = c.places[p];
+        let own = place.mark;
+        let r = move_into(place, back);
+        let m = c.moves[number(r) as usize];
+        let q = given(r, guard_by(m, k % 2 == 1));
+        let u = number(q);
+        let g = c.guards[u as usize];
+        let f = firsts.at[p] as usize;
+        let first = c.places[f];
+        let around = first.mark;
+        let base = bases.at[p];
+        let drift = drifts.at[p];
+        if misses(
+            q,
+            g,
+            base,
+            drift,
+            back,
+            rounds_by(back, f == p, own, around),
+        ) {
+            return Search::At(PlaceNo(p), u);
+        }
+        k = k + 1;
+    }
+    Search::Nowhere
+}
+
+// Whether a mark is right, of a sentence that is so throughout the place.
+fn mark_right(t: Throughout, marked: bool) -> bool
+    ensures { λ r. ⌜ r ≡ cond marked (isAlways t) (isNever t) ⌝ }
+{
+    if marked {
+        return lines::is_always(t);
+    }
+    lines::is_never(t)
+}
+
+// The first place at which the mark of sentence i is wrong.
+fn wrong_place(c: Case, i: u8, ts: Throughs) -> Search
+    requires { ⌜ (Sound c) × (ts ≡ throughsOf (itemsOf c) (formAt (itemsOf c) i)) ⌝ }
+    ensures { λ r. ⌜ r ≡ toldMark (firstNot (right (itemsOf c) zeros) (rowAt (itemsOf c) i)) ⌝ }
+{
+    let n = c.count.places;
+    let mut p: usize = 0;
+    while p < n {
+        let place = c.places[p];
+        let cell = ts.at[p];
+        let t = cell.is;
+        if mark_right(t, throughs::bit(place.marks, i)) {
+            p = p + 1;
+        } else {
+            return Search::At(PlaceNo(p), i);
+        }
+    }
+    Search::Nowhere
+}
+
+// Whether a search found something.
+fn is_found(s: Search) -> bool
+    ensures { λ r. ⌜ r ≡ isFound s ⌝ }
+{
+    match s {
+        Search::Nowhere => false,
+        Search::At(_, _) => true,
+    }
+}
+
+// The first wrong mark: by sentence, then by place.
+fn wrong_mark(c: Case, t: Tables) -> Search
+    requires { ⌜ (Sound c) × (t ≡ tablesOf (itemsOf c)) ⌝ }
+    ensures { λ r. ⌜ r ≡ toldMark (firstNot (right (itemsOf c) zeros) (marksOf (itemsOf c))) ⌝ }
+{
+    let n = c.count.sentences;
+    let mut i: usize = 0;
+    while i < n {
+        let sentence = c.sentences[i];
+        let form = sentence.form;
+        let s = wrong_place(c, i as u8, throughs::form_over(c, t, form));
+        if is_found(s) {
+            return s;
+        }
+        i = i + 1;
+    }
+    Search::Nowhere
+}
+
+// 35, or the plan is accepted: by the root's mark at place 0.
+fn root_answer(c: Case) -> Judgement
+    requires { ⌜ Sound c ⌝ }
+    ensures { λ r. ⌜ r ≡ rootAnswer (itemsOf c) ⌝ }
+{
+    let root = one_less(c.count.sentences) as u8;
+    let first = c.places[0];
+    if throughs::bit(first.marks, root) {
+        return Judgement::Accepted;
+    }
+    Judgement::RootUnmarked(root)
+}
+
+// 34, where the search for a wrong mark found something, else by the root.
+fn marks_answer(c: Case, s: Search) -> Judgement
+    requires { ⌜ Sound c ⌝ }
+    ensures { λ r. ⌜ r ≡ orWrongMark s (rootAnswer (itemsOf c)) ⌝ }
+{
+    match s {
+        Search::Nowhere => root_answer(c),
+        Search::At(p, i) => Judgement::WrongMark(p, i),
+    }
+}
+
+// 33, where the search for a guard that fails found something, else by the marks.
+fn guards_answer(c: Case, t: Tables, s: Search) -> Judgement
+    requires { ⌜ (Sound c) × (t ≡ tablesOf (itemsOf c)) ⌝ }
+    ensures { λ r. ⌜ r ≡ orGuardFails s (marksAnswer (itemsOf c)) ⌝ }
+{
+    match s {
+        Search::Nowhere => marks_answer(c, wrong_mark(c, t)),
+        Search::At(p, g) => Judgement::GuardFails(p, g),
+    }
+}
+
+// The answer of a case whose ways all connect.
+fn connected_answer(c: Case) -> Judgement
+    requires { ⌜ Sound c ⌝ }
+    ensures { λ r. ⌜ r ≡ guardsAnswer (itemsOf c) ⌝ }
+{
+    let t = Tables::of(c);
+    guards_answer(c, t, guard_fails(c, t))
+}
+
+// 32, where the search for a way that doesn't connect found something, else by the guards.
+fn ways_answer(c: Case, s: Search) -> Judgement
+    requires { ⌜ Sound c ⌝ }
+    ensures { λ r. ⌜ r ≡ orUnconnected s (guardsAnswer (itemsOf c)) ⌝ }
+{
+    match s {
+        Search::Nowhere => connected_answer(c),
+        Search::At(p, t) => Judgement::Unconnected(p, t),
+    }
+}
+
+// Whether there is a sentence, and the endless loop has closed.
+fn finished(count: Counts, loops: Loops) -> bool
+    ensures { λ r. ⌜ r ≡ (ltb 0 (count .sentences) && isClosed loops (count .places)) ⌝ }
+{
+    let end = loops.end;
+    if 0 < count.sentences {
+        if loops.endless {
+            return end.0 <= count.places;
+        }
+    }
+    false
+}
+
+// How many items are held.
+fn held(count: Counts) -> usize
+    requires { ⌜ held count < 2 ^ 64 ⌝ }
+    ensures { λ r. ⌜ r ≡ held count ⌝ }
+{
+    count.states + (count.guards + (count.moves + (count.sentences + count.places)))
+}
+
+// The judgement of a case: 24, 31, then by the ways.
+pub fn judge(c: Case) -> Judgement
+    requires { ⌜ Sound c ⌝ }
+    ensures { λ r. ⌜ r ≡ verdict (itemsOf c) zeros ⌝ }
+{
+    let count = c.count;
+    let loops = c.loops;
+    if finished(count, loops) {
+        let first = c.places[0];
+        if first.state == 0 {
+            return ways_answer(c, unconnected(c));
+        }
+        return Judgement::WrongStart;
+    }
+    Judgement::Unfinished(held(count))
+}

@@ -1,0 +1,40 @@
+-- `line::line_of` meets its contract: the parts are put into an empty line one after the other. Assumes nothing.
+use borrow.Author.Needs.{needs}
+use Rattle.line.specs.Line.{numbersTold, holding}
+use Rattle.line.proofs.Laws.{line-parts}
+use Rattle.line.proofs.line_of.Statement.{statement}
+use Rattle.line.proofs.line_of.Tie as tie
+
+with-number-requires : tie.Need-with-number-requires
+with-number-requires c κs = search needs
+
+with-requires : tie.Need-with-requires
+with-requires c κs = search needs
+
+with-number-requires-2 : tie.Need-with-number-requires-2
+with-number-requires-2 c κs = search needs
+
+with-requires-2 : tie.Need-with-requires-2
+with-requires-2 c κs = search needs
+
+with-number-requires-3 : tie.Need-with-number-requires-3
+with-number-requires-3 c κs = search needs
+
+with-requires-3 : tie.Need-with-requires-3
+with-requires-3 c κs = search needs
+
+returns : tie.Need-returns
+unfolding holding
+returns c = cc (line-parts (numbersTold (c .before .before .before .before .before .before .args .n)))
+
+pub line-of-spec : {M : Type 1} → statement M
+line-of-spec =
+    tie.close
+    (tie.spec
+    with-number-requires
+    with-requires
+    with-number-requires-2
+    with-requires-2
+    with-number-requires-3
+    with-requires-3
+    returns)

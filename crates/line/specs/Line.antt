@@ -1,0 +1,43 @@
+-- The line that the program prints (document 01): "one line of three numbers with single spaces".
+use mathlib.Core.List.{List, [], _∷_, _++_}
+use Prim.Native.Nat.{ℕ, _+_, _-_}
+use lib.ListN.{length, set, replicate}
+use Rattle.record.specs.Spelling.{space}
+use Rattle.record.specs.Spell.{numeral}
+use Rattle.faults.specs.Input.{lineFeed}
+use Rattle.meaning.specs.Judged.{Numbers}
+use Rattle.line.specs.declared.Told.{Told}
+use Rattle.line.specs.declared.Line.{Line}
+
+-- as many digits as a number of a line may have: all are below 1,000
+abbrev pub most : ℕ
+most = 3
+
+-- the bytes of the line
+unfoldable pub lineOf : Numbers → List ℕ
+lineOf n = numeral most (n .result) ++ (space ∷ (numeral most (n .second) ++ (space ∷ (numeral most (n .third) ++ (lineFeed ∷ [])))))
+
+-- the numbers that are told
+abbrev pub numbersTold : Told → Numbers
+numbersTold t = record { result = t .result; second = t .second; third = t .third }
+
+-- and the other way round
+abbrev pub toldOf : Numbers → Told
+toldOf n = record { result = n .result; second = n .second; third = n .third }
+
+-- the most bytes of a line
+abbrev pub longest : ℕ
+longest = 12
+
+-- the line that holds the bytes, and 0 in what is left of its bytes
+unfoldable pub holding : List ℕ → Line
+holding bs = record { bytes = bs ++ replicate (longest - length bs) 0; count = length bs }
+
+-- the line with one byte more
+abbrev pub pushed : Line → ℕ → Line
+pushed l b = record { bytes = set (l .bytes) (l .count) b; count = l .count + 1 }
+
+-- the line with more bytes, one after the other
+unfoldable pub added : Line → List ℕ → Line
+added l [] = l
+added l (b ∷ bs) = added (pushed l b) bs

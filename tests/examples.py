@@ -1,0 +1,148 @@
+#!/usr/bin/env python3
+"""examples.py PROGRAM: the examples, each spelled by tools/case, give the lines that their first comments say; and tools/case itself.
+
+PROGRAM reads a case file from standard input and prints its line. tools/case is tested on the records of tests/vectors.tsv, there and
+back, against the spelling of tests/reference.py, and on notation and bytes that it must refuse.
+"""
+import os
+import pathlib
+import subprocess
+import sys
+
+from reference import pack
+
+ROOT = pathlib.Path(__file__).resolve().parent.parent
+TOOL = ROOT / "tools" / "case"
+KINDS = "is none of S, G, T, F, P"
+RECORD = pack(["T", "0", "1", "1250", "0", "0", "0", "1"])
+
+# Notation, and why `spell` refuses it.
+NO_NOTATION = [
+    ("S 1\nX 1\n", f"line 2, record 1: the kind 'X' {KINDS}"),
+    ("s 1", f"line 1, record 0: the kind 's' {KINDS}"),
+    ("SG 1", f"line 1, record 0: the kind 'SG' {KINDS}"),
+    ("# two records\n\n`S 1` / `S 2`", f"line 3, record 0: the kind '`S' {KINDS}"),
+    ("S 1 / P 0 . 21 2 12 1`", "line 1, record 1, field 6: '1`' has a backquote"),
+    ("T 0 1 1 2 3 4 5 6 7", "line 1, record 0: 9 fields, and a record has 8"),
+    ("S 1 . . . . . . . .", "line 1, record 0: 9 fields, and a record has 8"),
+    ("T 0 1 1,250", "line 1, record 0, field 3: '1,250' has a comma"),
+    ("S +1", "line 1, record 0, field 1: '+1' has a plus sign"),
+    ("S 1.0", "line 1, record 0, field 1: '1.0' has a point"),
+    ("S 1 ..", "line 1, record 0, field 2: '..' has a point"),
+    ("S 01", "line 1, record 0, field 1: '01' has a leading zero"),
+    ("S -01", "line 1, record 0, field 1: '-01' has a leading zero"),
+    ("S 00", "line 1, record 0, field 1: '00' has a leading zero"),
+    ("G 0 -0", "line 1, record 0, field 2: '-0' is minus zero"),
+    ("S -", "line 1, record 0, field 1: '-' is no number"),
+    ("S one", "line 1, record 0, field 1: 'one' is no number"),
+    ("S 10000000", "line 1, record 0, field 1: '10000000' has 8 characters, and a field has room for 7"),
+    ("G 0 0 0 0 -1000000", "line 1, record 0, field 5: '-1000000' has 8 characters, and a field has room for 7"),
+    ("S 1/S 2", "line 1, record 0, field 1: '1/S' has a slash (between records it needs a space on each side)"),
+    ("S 1 / / S 2", "line 1: a slash without a record on each side"),
+    ("S 1 /\nS 2", "line 1: a slash without a record on each side"),
+    ("S 1\nS\t2", r"line 2: the byte '\t' is not of the notation (fields have spaces between them)"),
+    ("S 1\r\n", r"line 1: the byte '\r' is not of the notation (fields have spaces between them)"),
+    ("S \u0661", r"line 1: the byte '\xd9' is not of the notation (fields have spaces between them)"),
+]
+
+# Bytes, and why `show` refuses them.
+NO_CASE = [
+    (RECORD + RECORD[:57], "record 1: 57 bytes, and a record has 58"),
+    (RECORD + b"\n", "record 1: 1 bytes, and a record has 58"),
+    (RECORD[:57] + b"\r\n", r"record 0: byte 57 is '\r', not a line feed"),
+    (RECORD + b"\0" + RECORD[1:], rf"record 1: the kind '\x00' {KINDS}"),
+    (RECORD.replace(b"  1250", b" 1,250"), "record 0, field 3: '  1,250' has a comma"),
+    (RECORD.replace(b" 1250", b"1250 "), "record 0, field 3: '  1250 ' has a space that is not before the number"),
+    (RECORD.replace(b" 1250", b"+1250"), "record 0, field 3: '  +1250' has a plus sign"),
+    (RECORD.replace(b" 1250", b"01250"), "record 0, field 3: '  01250' has a leading zero"),
+    (RECORD.replace(b"   1250", b"     -0"), "record 0, field 3: '     -0' is minus zero"),
+    (RECORD.replace(b"   1250", b"      ."), "record 0, field 3: '      .' has a point"),
+    (RECORD.replace(b"   1250", b"   125\xb2"), r"record 0, field 3: '   125\xb2' is no number"),
+    (RECORD.replace(b"   1250", b"1250\n  "), r"record 0, field 3: '1250\n  ' has a space that is not before the number"),
+]
+
+# Other notation that is taken, and the records that it spells.
+ALSO_NOTATION = [
+    ("", []),
+    ("\n  # nothing / here\n", []),
+    ("  S  1   /   P  0  .  21#0 / 1\n\n S 2", [["S", "1"], ["P", "0", ".", "21"], ["S", "2"]]),
+    ("G -999999 9999999 . . . . . .", [["G", "-999999", "9999999"]]),
+    ("S / F . . . . . . . 0", [["S"], ["F", ".", ".", ".", ".", ".", ".", ".", "0"]]),
+]
+
+
+class Count:
+    """How many tests passed and failed."""
+
+    def __init__(self):
+        self.passed = self.failed = 0
+
+    def equal(self, name, want, got):
+        if want == got:
+            self.passed += 1
+        else:
+            self.failed += 1
+            print(f"examples: {name}: expected {want!r:.400}, got {got!r:.400}")
+
+
+def case(turn, data):
+    """What tools/case writes, what it complains of, and its status."""
+    done = subprocess.run([sys.executable, TOOL, turn], input=data, capture_output=True)
+    return done.stdout, done.stderr.decode(), done.returncode
+
+
+def taken(data):
+    return data, "", 0
+
+
+def refused(why):
+    """Nothing is written then."""
+    return b"", f"case: standard input: {why}\n", 1
+
+
+def examples(count, program):
+    """The examples give their lines, and come back from `show` as they were spelled."""
+    files = sorted((ROOT / "examples").glob("*.case"))
+    for file in files:
+        first = file.read_text().split("\n")[0]
+        spelled, complaint, _ = case("spell", file.read_bytes())
+        count.equal(f"{file.name}: complaint", "", complaint)
+        line = subprocess.run([program], input=spelled, stdout=subprocess.PIPE).stdout.decode()
+        count.equal(file.name, first + "\n", "# gives: " + line)
+        count.equal(f"{file.name}: there and back", taken(spelled), case("spell", case("show", spelled)[0]))
+    return len(files)
+
+
+def stored(count):
+    """The records of the stored cases, those without edits of their bytes."""
+    cases = [line.rstrip("\n").split("\t") for line in open(ROOT / "tests" / "vectors.tsv") if not line.startswith("#")]
+    records = [record for _, _, records, edits in cases if not edits for record in records.split("/") if record]
+    lines = "".join(record + "\n" for record in records).encode()
+    data = b"".join(pack(record.split(" ")) for record in records)
+    count.equal("stored records, one a line", taken(data), case("spell", lines))
+    count.equal("stored records, with slashes", taken(data), case("spell", " / ".join(records).encode()))
+    count.equal("stored records, shown", taken(lines), case("show", data))
+    return len(records)
+
+
+def main():
+    if len(sys.argv) != 2:
+        sys.exit(__doc__)
+    count = Count()
+    count.equal("tools/case can be run", True, os.access(TOOL, os.X_OK))
+    files = examples(count, os.path.abspath(sys.argv[1]))
+    records = stored(count)
+    for text, want in ALSO_NOTATION:
+        count.equal(repr(text), taken(b"".join(map(pack, want))), case("spell", text.encode()))
+    for text, why in NO_NOTATION:
+        count.equal(repr(text), refused(why), case("spell", text.encode()))
+    for data, why in NO_CASE:
+        count.equal(repr(data), refused(why), case("show", data))
+    refusals = len(NO_NOTATION) + len(NO_CASE)
+    print(f"examples: {count.passed} passed, {count.failed} failed ({files} examples, {records} records there and back, {refusals} refusals)")
+    if count.failed or not files or not records:
+        sys.exit(1)
+
+
+if __name__ == "__main__":
+    main()

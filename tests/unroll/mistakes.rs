@@ -1,0 +1,41 @@
+//! The mistakes that can be planted in the separate checker: those that are easily made in a checker with formulas for loops, and others.
+//! What is a wrong formula there is put here as the same wrong result of the unrolling.
+
+/// The enum of the mistakes, and the list of them with their words.
+macro_rules! mistakes {
+    ($($name:ident: $words:literal,)*) => {
+        #[derive(Clone, Copy, PartialEq)]
+        pub enum Mistake { Nothing, $($name),* }
+        pub const MISTAKES: &[(Mistake, &str)] = &[$((Mistake::$name, $words)),*];
+    };
+}
+
+mistakes! {
+    ExtraRound: "until: a goal inside a counted loop with n rounds' sum before it, not n - 1",
+    RoundShort: "until: one round short in the sum past a counted loop",
+    GrowthEndless: "until: the sign of the growth in the endless loop",
+    GrowthCounted: "until: the sign of the growth in a counted loop (goals seen in its first round only)",
+    FalseOnce: "34: guard sentences marked false tested only once",
+    BackFromRoundOne: "33: back-move guards tested from round 1",
+    ExtraDrift: "counters: leaving a loop with R drifts, not R - 1",
+    DriftWithWayIn: "counters: the drift includes the way in to the first place",
+    EndlessUnheld: "until: endless growth without 'held throughout'",
+    CountedUnheld: "until: later rounds of a counted loop passed without 'held throughout'",
+    Swapped25: "25: the tests swapped",
+    MarkBit: "23: a mark bit equal to the number of sentences let through",
+    EvenBounds: "16: a bound above 999,999 refused, as if numbers went as far up as down",
+    GoalCounted: "until: the goal's own moment counted",
+    MarksFirstRound: "34: only the first round tested",
+    MarksLastRound: "34: only the last round tested",
+    MarksEndlessOnce: "34: the endless loop tested once",
+    GuardsFirstRound: "33: only the first round tested",
+    GuardsLastRound: "33: only the last round tested",
+    GuardsEndlessOnce: "33: the endless loop tested once",
+    BackWithOneRound: "33: back-move guards tested in a loop of 1 round",
+    UnconnectedOneRound: "32: the back move of a loop of 1 round not looked at",
+    NextStays: "next: the last place of a loop looks at its first place in the last round too",
+    NextLeaves: "next: the last place of a loop looks past the loop in every round",
+    TermsOnce: "until: two terms on one sentence counted once",
+    GuardsBefore: "33: guards tested on the sums before the updates",
+    FirstInTime: "33: the earliest failing guard told, not that of the smallest place",
+}

@@ -1,0 +1,384 @@
+//! Random case files from a seed: plans whose marks are right, with bounds set close to what they bound; and damaged ones.
+use crate::checker::*;
+use crate::mistakes::Mistake;
+use crate::reader::*;
+
+/// The numbers that follow from a seed (splitmix64).
+pub struct Random(pub u64);
+
+impl Random {
+    fn next(&mut self) -> u64 {
+        self.0 = self.0.wrapping_add(0x9e37_79b9_7f4a_7c15);
+        let mut z = self.0;
+        z = (z ^ (z >> 30)).wrapping_mul(0xbf58_476d_1ce4_e5b9);
+        z = (z ^ (z >> 27)).wrapping_mul(0x94d0_49bb_1331_11eb);
+        z ^ (z >> 31)
+    }
+
+    fn below(&mut self, count: usize) -> usize {
+        (self.next() % count as u64) as usize
+    }
+
+    fn between(&mut self, low: i64, high: i64) -> i64 {
+        low + self.below((high - low + 1) as usize) as i64
+    }
+
+    /// True in so many of a hundred draws.
+    fn chance(&mut self, percent: usize) -> bool {
+        self.below(100) < percent
+    }
+
+    fn pick<A: Copy>(&mut self, list: &[A]) -> A {
+        list[self.below(list.len())]
+    }
+}
+
+/// Steps allowed while a plan is made.
+const STEPS: u64 = 30_000;
+/// What a field can spell.
+const HIGHEST: i64 = 9_999_999;
+const LOWEST: i64 = -999_999;
+
+fn fields(contents: &[Option<i64>]) -> Fields {
+    let mut fields = [None; 9];
+    fields[1..=contents.len()].copy_from_slice(contents);
+    fields
+}
+
+fn filled(contents: &[i64]) -> Fields {
+    fields(&contents.iter().copied().map(Some).collect::<Vec<_>>())
+}
+
+fn record(kind: usize, fields: &Fields) -> Vec<u8> {
+    let mut bytes = vec![LETTERS[kind]];
+    fields[1..].iter().for_each(|&content| bytes.extend(spelled(content).bytes()));
+    bytes.push(b'\n');
+    bytes
+}
+
+/// The file of a random plan; half of them are damaged.
+pub fn random_file(r: &mut Random) -> Vec<u8> {
+    let (wide, slips) = (r.chance(8), r.chance(15));
+    let case = Maker { r, case: Case::default(), wide, slips }.plan();
+    let mut bytes: Vec<u8> = (S..=P).flat_map(|kind| case.0[kind].iter().flat_map(move |item| record(kind, item))).collect();
+    if r.chance(50) {
+        for _ in 0..r.pick(&[1, 1, 1, 2]) {
+            damage(r, &case, &mut bytes);
+        }
+    }
+    bytes
+}
+
+/// A plan in the making; `wide` for large numbers, `slips` for guards and sentences that may not be the same in all rounds.
+struct Maker<'a> {
+    r: &'a mut Random,
+    case: Case,
+    wide: bool,
+    slips: bool,
+}
+
+impl Maker<'_> {
+    /// A plan that is accepted, but for slips and a few false roots.
+    fn plan(mut self) -> Case {
+        let states = if self.r.chance(4) { 1 } else { self.r.between(2, 4) };
+        for _ in 0..states {
+            let propositions = self.r.between(0, if self.wide { 65_535 } else { 7 });
+            self.case.0[S].push(filled(&[propositions]));
+        }
+        let longest = if self.r.chance(1) { 16 } else { 3 };
+        let before = if self.r.chance(5) { 0 } else { self.r.pick(&[1, 2, 2, 2, 3, 3]) };
+        let main_loop = self.r.below(before.max(1));
+        for at in 0..before {
+            let rounds = if at == main_loop { self.r.pick(&[2, 2, 3, 4, 5, 6]) } else { self.r.pick(&[1, 1, 2, 3, 25]) };
+            let looped = at == main_loop || self.r.chance(40);
+            self.stretch(longest, looped.then_some(Some(rounds)));
+        }
+        self.stretch(longest, Some(None));
+        let run = Run::new(&self.case, Mistake::Nothing, STEPS).expect("a short plan");
+        self.guard_moves(&run);
+        self.sentences(&run);
+        self.case
+    }
+
+    /// A loop (with its rounds; none for the endless one), or a place outside loops.
+    fn stretch(&mut self, longest: i64, mark: Option<Option<i64>>) {
+        let first = self.case.0[P].len();
+        let length = if mark.is_some() { self.r.between(1, longest) } else { 1 };
+        for at in first..first + length as usize {
+            let state = if at == 0 { 0 } else { self.r.below(self.case.0[S].len()) as i64 };
+            let way = (at > 0).then(|| self.move_between(self.state(at - 1), state));
+            self.case.0[P].push(fields(&[Some(state), way, Some(0)]));
+        }
+        if let Some(rounds) = mark {
+            let back = self.move_between(self.state(self.case.0[P].len() - 1), self.state(first));
+            self.case.0[P][first][4..7].copy_from_slice(&[Some(length), rounds, Some(back)]);
+        }
+    }
+
+    fn state(&self, place: usize) -> i64 {
+        self.case.0[P][place][1].expect("a state")
+    }
+
+    /// A move from state to state: one that is there already, or a new one.
+    fn move_between(&mut self, from: i64, to: i64) -> i64 {
+        let moves = &mut self.case.0[T];
+        let there = moves.iter().position(|item| item[1..3] == [Some(from), Some(to)]);
+        if let Some(number) = there.filter(|_| self.r.chance(20) || moves.len() > 40) {
+            return number as i64;
+        }
+        let most = if self.wide { self.r.pick(&[9_999, 500]) } else { self.r.between(0, 3) };
+        let mut item = filled(&[from, to, 0, 0, 0, 0]);
+        for counter in 3..7 {
+            item[counter] = Some(if self.r.chance(60) { self.r.between(-most, most) } else { 0 });
+        }
+        moves.push(item);
+        moves.len() as i64 - 1
+    }
+
+    /// Guards for some moves, true wherever the move is taken.
+    fn guard_moves(&mut self, run: &Run) {
+        let backs: Vec<i64> = self.case.0[P].iter().filter(|place| place[5] >= Some(2)).filter_map(|place| place[6]).collect();
+        for number in 0..self.case.0[T].len() {
+            let first = if backs.contains(&(number as i64)) { 95 } else { 35 };
+            for (field, chance) in [(7, first), (8, 25)] {
+                if !self.r.chance(chance) || self.case.0[G].len() >= 28 {
+                    break;
+                }
+                let Some(guard) = self.true_guard(run, number) else { break };
+                self.case.0[T][number][field] = Some(self.case.0[G].len() as i64);
+                self.case.0[G].push(guard);
+            }
+        }
+    }
+
+    /// A guard that holds at all moments at which the move is taken, mostly with nothing to spare.
+    fn true_guard(&mut self, run: &Run, number: usize) -> Option<Fields> {
+        let case = &self.case;
+        let taken = |step: &&Step, round| case.entry(step.place, round).is_some_and(|(_, entered)| entered == number);
+        let mut uses: Vec<[i64; 4]> = run.moments.iter().filter(|step| taken(step, step.round)).map(|step| step.counters).collect();
+        // what a round of the endless loop adds, and the counters when it starts again
+        let mut drift = [0; 4];
+        run.moments[run.endless..].iter().for_each(|step| case.add_updates(&mut drift, case.entry(step.place, 2).expect("a move").1));
+        let first = &run.moments[run.endless];
+        if taken(&first, 2) {
+            uses.push(std::array::from_fn(|counter| first.counters[counter] + drift[counter]));
+        }
+        let mut guard = self.coefficients(self.wide);
+        if guard_sum(&guard, &drift) < 0 && !(self.slips && self.r.chance(20)) {
+            (1..5).for_each(|counter| guard[counter] = guard[counter].map(|coefficient| -coefficient));
+        }
+        let least = uses.iter().map(|counters| guard_sum(&guard, counters)).min().unwrap_or(self.r.between(-5, 5));
+        let room = self.r.pick(&[0, 0, 0, 0, 0, 1, 2, 999_999]);
+        guard[5] = Some((least - room).clamp(LOWEST, HIGHEST));
+        (guard[5] <= Some(least)).then_some(guard)
+    }
+
+    fn coefficients(&mut self, wide: bool) -> Fields {
+        let most = if wide { 999 } else { 2 };
+        let mut guard = filled(&[0, 0, 0, 0, 0]);
+        for counter in 1..=self.r.pick(&[1, 1, 2, 4]) {
+            guard[counter] = Some(self.r.between(-most, most));
+        }
+        guard[1..5].rotate_left(self.r.below(4));
+        guard
+    }
+
+    /// Sentences that are the same at all moments of each place, but for slips; then the marks.
+    fn sentences(&mut self, run: &Run) {
+        let most = if self.r.chance(4) { 1 } else { self.r.pick(&[5, 6, 7, 8, 9, 10, 12, 19]) };
+        let mut truths: Vec<Vec<bool>> = Vec::new();
+        for _ in 0..4 * most {
+            if truths.len() >= most {
+                break;
+            }
+            let Some(sentence) = self.sentence(run, &truths) else { continue };
+            let Ok(truth) = run.truth(&self.case, &sentence, &truths) else { continue };
+            let marks = by_place(run, &truth, false);
+            let steady = run.wrong_place(&self.case, &sentence, &truth, |place| marks[place]);
+            if steady.is_ok_and(|wrong| wrong.is_none() || self.slips && self.r.chance(40)) {
+                self.case.0[F].push(sentence);
+                truths.push(truth);
+            }
+        }
+        if truths.last().is_none_or(|root| !root[0]) && self.r.chance(97) {
+            let negated = truths.last().map(|root| root.iter().map(|truth| !truth).collect());
+            self.case.0[F].push(if negated.is_some() { filled(&[4, truths.len() as i64 - 1]) } else { filled(&[0]) });
+            truths.push(negated.unwrap_or(vec![true; run.moments.len()]));
+        }
+        let last = self.r.chance(50);
+        for (number, truth) in truths.iter().enumerate() {
+            for (place, marked) in by_place(run, truth, last).into_iter().enumerate() {
+                self.case.0[P][place][3] = self.case.0[P][place][3].map(|marks| marks | (marked as i64) << number);
+            }
+        }
+    }
+
+    /// One more sentence over those there are; sometimes with a guard of its own.
+    fn sentence(&mut self, run: &Run, truths: &[Vec<bool>]) -> Option<Fields> {
+        let form = self.r.pick(if truths.len() < 3 { &[0, 1, 1, 1, 2] } else { &[1, 2, 3, 4, 5, 5, 6, 6, 6, 6, 6, 6] });
+        let any = |r: &mut Random| r.below(truths.len()) as i64;
+        Some(match form {
+            0 => filled(&[0]),
+            1 => filled(&[1, self.proposition()]),
+            2 => filled(&[2, self.guard_for_sentence(run)?]),
+            3 => filled(&[3, any(self.r), any(self.r)]),
+            6 => self.until(run, truths)?,
+            _ => filled(&[form, any(self.r)]),
+        })
+    }
+
+    /// A proposition, mostly one that tells places apart.
+    fn proposition(&mut self) -> i64 {
+        let sets = || self.case.0[P].iter().map(|place| self.case.0[S][place[1].expect("a state") as usize][1].expect("a set"));
+        let telling: Vec<i64> = (0..16).filter(|&number| sets().any(|set| (set ^ sets().next().unwrap_or(0)) >> number & 1 == 1)).collect();
+        if telling.is_empty() || self.r.chance(15) {
+            self.r.pick(&[0, 1, 2, 15])
+        } else {
+            self.r.pick(&telling)
+        }
+    }
+
+    /// A guard whose bound is one of the sums of the run, or close above.
+    fn guard_for_sentence(&mut self, run: &Run) -> Option<i64> {
+        let count = self.case.0[G].len();
+        if count >= 32 || count > 0 && self.r.chance(20) {
+            return Some(self.r.below(count) as i64);
+        }
+        let mut guard = self.coefficients(false);
+        let sum = guard_sum(&guard, &run.moments[self.r.below(run.moments.len())].counters);
+        let far = self.r.pick(&[LOWEST, -99_999, 999_999, 1_000_000, HIGHEST]);
+        guard[5] = Some(if self.r.chance(95) { (sum + self.r.pick(&[0, 0, 1, 1, 2])).clamp(LOWEST, HIGHEST) } else { far });
+        run.later(&self.case, &guard).ok()?;
+        self.case.0[G].push(guard);
+        Some(count as i64)
+    }
+
+    /// An until whose bound is one of the sums with which its goal is reached, or one more; best where that tells places apart.
+    fn until(&mut self, run: &Run, truths: &[Vec<bool>]) -> Option<Fields> {
+        let count = |number: &usize| truths[*number].iter().filter(|&&truth| truth).count();
+        let any = |r: &mut Random| r.below(truths.len());
+        let often = (0..truths.len()).max_by_key(count)?;
+        let uneven: Vec<usize> = (0..truths.len()).filter(|number| (1..run.moments.len()).contains(&count(number))).collect();
+        let held = if self.r.chance(60) { often } else { any(self.r) };
+        let mut sentence = filled(&[6, held as i64, any(self.r) as i64, 0]);
+        let most = if self.r.chance(5) { 999 } else { 3 };
+        for (field, chance) in [(5, 92), (7, 40)] {
+            if !self.r.chance(chance) {
+                break;
+            }
+            let counted = if uneven.is_empty() || self.r.chance(20) { any(self.r) } else { self.r.pick(&uneven) };
+            sentence[field..field + 2].copy_from_slice(&[Some(self.r.between(-most, most)), Some(counted as i64)]);
+        }
+        let best = run.best_sums(&sentence, truths, 20 * most).ok()?;
+        let mut bounds: Vec<i64> = best.iter().flatten().flat_map(|&sum| [sum, sum + 1]).collect();
+        bounds.sort();
+        bounds.dedup();
+        let truth = |bound: i64| best.iter().map(|&sum| sum >= Some(bound)).collect::<Vec<bool>>();
+        let steady = |bound: &i64| by_place(run, &truth(*bound), false) == by_place(run, &truth(*bound), true);
+        let telling = |bound: &i64| truth(*bound).contains(&true) && truth(*bound).contains(&false);
+        if !self.slips || self.r.chance(50) {
+            bounds.retain(steady);
+        }
+        if self.r.chance(90) && bounds.iter().any(telling) {
+            bounds.retain(telling);
+        }
+        if bounds.is_empty() || self.r.chance(3) {
+            bounds = vec![LOWEST, -1, 0, 1, 2, 3, 4, 5, 1_000_000, HIGHEST];
+        }
+        sentence[4] = Some(self.r.pick(&bounds));
+        Some(sentence)
+    }
+}
+
+/// The truth at each place: at its last moment, or at its first.
+fn by_place(run: &Run, truth: &[bool], last: bool) -> Vec<bool> {
+    let mut marks = vec![false; run.moments[run.moments.len() - 1].place + 1];
+    for (step, &truth) in run.moments.iter().zip(truth) {
+        if last || step.round == 1 {
+            marks[step.place] = truth;
+        }
+    }
+    marks
+}
+
+const SPELLINGS: [&str; 16] =
+    ["-", "+1", "1,250", "1.5", "007", "-0", "00", "12 3", " 5 ", "1 ", "-999999", "9999999", "1000000", "-00001", "1e3", "\u{b2}"];
+const NUMBERS: [i64; 24] =
+    [-1, 0, 1, 2, 3, 5, 6, 7, 15, 16, 31, 32, 63, 64, 999, 1_000, -1_000, 9_999, 10_000, -10_000, 65_536, 1_048_576, 1_000_001, HIGHEST];
+
+/// Writes a field of a record that is there.
+fn put(bytes: &mut [u8], at: usize, number: usize, text: &str) {
+    let from = at * LENGTH + 1 + (number - 1) * WIDTH;
+    let padded = format!("{text:>WIDTH$}");
+    if padded.len() == WIDTH && from + WIDTH < bytes.len() {
+        bytes[from..from + WIDTH].copy_from_slice(padded.as_bytes());
+    }
+}
+
+/// Spoils one thing; the records are those of the case, but for damage done before.
+fn damage(r: &mut Random, case: &Case, bytes: &mut Vec<u8>) {
+    let start: [usize; 5] = std::array::from_fn(|kind| case.0[..kind].iter().map(Vec::len).sum());
+    let kind = r.pick(&[S, G, T, F, P, P, P]);
+    let records = bytes.len() / LENGTH;
+    if case.0[kind].is_empty() || case.0[F].is_empty() || records == 0 {
+        return;
+    }
+    let item = r.below(case.0[kind].len());
+    let place = r.below(case.0[P].len());
+    let at = (start[kind] + item).min(records - 1);
+    let number = r.between(1, 8) as usize;
+    match r.below(26) {
+        0..=2 => {
+            let flipped = case.0[P][place][3].map(|marks| marks ^ 1 << r.below(case.0[F].len() + 1));
+            put(bytes, start[P] + place, 3, &spelled(flipped));
+        }
+        3..=5 => {
+            let rounds = if r.chance(90) { r.between(1, 8) } else { r.pick(&[0, -1, 40, 1_000_001]) };
+            put_in_some(r, case, bytes, (P, 5), |_, _| rounds);
+        }
+        6..=8 => put_in_some(r, case, bytes, (kind, number), |r, content| content + r.pick(&[-1, 1])),
+        9 => put_in_some(r, case, bytes, (G, 5), |r, bound| bound + r.pick(&[-1, 1, 1, 2])),
+        10 => put_in_some(r, case, bytes, (F, 4), |r, bound| bound + r.pick(&[-1, 1])),
+        11 => put_in_some(r, case, bytes, (P, 2 + 4 * (number % 2)), |r, _| r.below(case.0[T].len()) as i64),
+        12 => put(bytes, at, number, &r.pick(&NUMBERS).to_string()),
+        13 => put(bytes, at, number, ""),
+        14 => put(bytes, at, number, r.pick(&SPELLINGS)),
+        15 => {
+            let byte = r.below(bytes.len());
+            bytes[byte] = if r.chance(70) { r.pick(b" 0-1,9\nSP") } else { r.below(256) as u8 };
+        }
+        16 => bytes[at * LENGTH + r.pick(&[0, LENGTH - 1])] = r.pick(b"SGTFPsW \r"),
+        17 => bytes.truncate(r.below(bytes.len())),
+        18 => bytes.truncate(r.below(records) * LENGTH),
+        19 => {
+            let other = r.below(records);
+            (0..LENGTH).for_each(|byte| bytes.swap(at * LENGTH + byte, other * LENGTH + byte));
+        }
+        20 => drop(bytes.drain(at * LENGTH..(at + 1) * LENGTH)),
+        21 => bytes.extend(record(kind, &case.0[kind][item])),
+        22 => {
+            let more = ROOM[kind] - case.0[kind].len().min(ROOM[kind]) + r.below(2);
+            bytes.splice(at * LENGTH..at * LENGTH, record(kind, &case.0[kind][item]).repeat(more));
+        }
+        23 => put(bytes, start[P] + r.pick(&[0, place]), r.pick(&[1, 2]), r.pick(&["0", "1", "2", ""])),
+        _ => {
+            // a loop mark at a place, or at one more place after the end
+            let at = if r.chance(50) { case.0[P].len() } else { place };
+            let length = r.pick(&[1, 2, 3, 63 - at as i64, 64 - at as i64, 65 - at as i64, 64]);
+            let mut fields = case.0[P][place];
+            fields[4..7].copy_from_slice(&[Some(length), r.pick(&[None, Some(2)]), Some(0)]);
+            let from = ((start[P] + at) * LENGTH).min(records * LENGTH);
+            bytes.splice(from..(from + LENGTH).min(bytes.len()), record(P, &fields));
+        }
+    }
+}
+
+/// Changes a field of a kind in one of the records where it is filled.
+fn put_in_some(r: &mut Random, case: &Case, bytes: &mut [u8], (kind, number): (usize, usize), change: impl Fn(&mut Random, i64) -> i64) {
+    let filled: Vec<usize> = (0..case.0[kind].len()).filter(|&item| case.0[kind][item][number].is_some()).collect();
+    if !filled.is_empty() {
+        let item = r.pick(&filled);
+        let content = case.0[kind][item][number].map(|content| change(r, content));
+        put(bytes, case.0[..kind].iter().map(Vec::len).sum::<usize>() + item, number, &spelled(content));
+    }
+}

@@ -1,0 +1,185 @@
+//! Reading a case file by document 01: the records, and the refusals 11 to 26.
+use crate::mistakes::Mistake::{self, *};
+
+/// The three numbers of the line.
+pub type Answer = (u64, u64, u64);
+/// A record's fields by their numbers 1 to 8; entry 0 is not used.
+pub type Fields = [Option<i64>; 9];
+/// The items of each kind, in the order of the letters.
+#[derive(Clone, Default)]
+pub struct Case(pub [Vec<Fields>; 5]);
+pub const LENGTH: usize = 58;
+pub const WIDTH: usize = 7;
+pub const LETTERS: &[u8; 5] = b"SGTFP";
+pub const ROOM: [usize; 5] = [32, 32, 64, 20, 64];
+pub const S: usize = 0;
+pub const G: usize = 1;
+pub const T: usize = 2;
+pub const F: usize = 3;
+pub const P: usize = 4;
+
+/// The case of a file, or the refusal of its first refused record.
+pub fn read(bytes: &[u8], mistake: Mistake) -> Result<Case, Answer> {
+    let mut case = Case::default();
+    for (number, record) in bytes.chunks(LENGTH).enumerate() {
+        let refused = |(result, field)| (result, number as u64, field as u64);
+        let (kind, fields) = from_input(record, mistake).map_err(refused)?;
+        from_state(&case, kind, &fields, mistake).map_err(refused)?;
+        case.0[kind].push(fields);
+    }
+    Ok(case)
+}
+
+/// A field: blank, or a number that is spelled back as it stands; anything else is none.
+fn field(text: &[u8]) -> Option<Option<i64>> {
+    if text.iter().all(|&byte| byte == b' ') {
+        return Some(None);
+    }
+    let number: i64 = std::str::from_utf8(text).ok()?.trim_start_matches(' ').parse().ok()?;
+    (spelled(Some(number)).as_bytes() == text).then_some(Some(number))
+}
+
+/// The seven characters of a field.
+pub fn spelled(content: Option<i64>) -> String {
+    content.map_or(" ".repeat(WIDTH), |number| format!("{number:>WIDTH$}"))
+}
+
+/// What fields 1 to 8 of a kind and form are: w propositions, c coefficient, b bound, s state, t move, g guard, u update, f form,
+/// p proposition, x sentence, m marks, l loop length, r rounds, - to be left blank.
+fn sorts(kind: usize, form: Option<i64>) -> &'static [u8; 8] {
+    match (kind, form.unwrap_or(0)) {
+        (S, _) => b"w-------",
+        (G, _) => b"ccccb---",
+        (T, _) => b"ssuuuugg",
+        (P, _) => b"stmlrt--",
+        (_, 0) => b"f-------",
+        (_, 1) => b"fp------",
+        (_, 2) => b"fg------",
+        (_, 3) => b"fxx-----",
+        (_, 4 | 5) => b"fx------",
+        _ => b"fxxbcxcx",
+    }
+}
+
+/// Whether a field must be filled, seeing which others are.
+fn needed(kind: usize, number: usize, fields: &Fields) -> bool {
+    let filled = |numbers: &[usize]| numbers.iter().any(|&other| fields[other].is_some());
+    match (kind, number) {
+        (T, 7) => filled(&[8]),
+        (T, 8) | (P, 2) | (P, 5) => false,
+        (P, 4) => filled(&[5, 6]),
+        (P, 6) => filled(&[4]),
+        (F, 5) if fields[1] == Some(6) => filled(&[6, 7, 8]),
+        (F, 6) if fields[1] == Some(6) => filled(&[5, 7, 8]),
+        (F, 7) if fields[1] == Some(6) => filled(&[8]),
+        (F, 8) if fields[1] == Some(6) => filled(&[7]),
+        _ => sorts(kind, fields[1])[number - 1] != b'-',
+    }
+}
+
+fn in_range(sort: u8, number: i64, mistake: Mistake) -> bool {
+    let (low, high) = match sort {
+        b'w' => (0, 65_535),
+        b'c' => (-999, 999),
+        b'u' => (-9_999, 9_999),
+        b'f' => (0, 6),
+        b'p' => (0, 15),
+        b'm' => (0, 1_048_575),
+        b'l' => (1, 64),
+        b'r' => (1, 1_000_000),
+        b'b' if mistake == EvenBounds => (-999_999, 999_999),
+        b'b' => return true,
+        _ => (0, 63),
+    };
+    low <= number && number <= high
+}
+
+/// 11 to 16, or the kind and the fields.
+fn from_input(record: &[u8], mistake: Mistake) -> Result<(usize, Fields), (u64, usize)> {
+    if record.len() != LENGTH {
+        return Err((11, 0));
+    }
+    if record[LENGTH - 1] != b'\n' {
+        return Err((12, 0));
+    }
+    let kind = LETTERS.iter().position(|&letter| letter == record[0]).ok_or((13, 0))?;
+    let mut fields = [None; 9];
+    for (at, text) in record[1..LENGTH - 1].chunks(WIDTH).enumerate() {
+        fields[at + 1] = field(text).ok_or((14, at + 1))?;
+    }
+    if kind == F && fields[1].is_some_and(|form| !in_range(b'f', form, mistake)) {
+        return Err((16, 1));
+    }
+    let sort = |number: usize| sorts(kind, fields[1])[number - 1];
+    let lowest = |wrong: &dyn Fn(usize) -> bool| (1..=8).find(|&number| wrong(number));
+    if let Some(number) = lowest(&|n| fields[n].is_none() && needed(kind, n, &fields)) {
+        return Err((15, number));
+    }
+    if let Some(number) = lowest(&|n| fields[n].is_some() && sort(n) == b'-') {
+        return Err((15, number));
+    }
+    match lowest(&|n| fields[n].is_some_and(|content| !in_range(sort(n), content, mistake))) {
+        Some(number) => Err((16, number)),
+        None => Ok((kind, fields)),
+    }
+}
+
+/// 21 to 26, or nothing.
+fn from_state(case: &Case, kind: usize, fields: &Fields, mistake: Mistake) -> Result<(), (u64, usize)> {
+    if case.0[kind + 1..].iter().any(|items| !items.is_empty()) {
+        return Err((21, 0));
+    }
+    if case.0[kind].len() >= ROOM[kind] {
+        return Err((22, 0));
+    }
+    for number in 1..=8 {
+        let Some(content) = fields[number] else { continue };
+        let there = match sorts(kind, fields[1])[number - 1] {
+            b's' => content < case.0[S].len() as i64,
+            b'g' => content < case.0[G].len() as i64,
+            b't' => content < case.0[T].len() as i64,
+            b'x' => content < case.0[F].len() as i64,
+            b'm' => content < 1 << (case.0[F].len() + (mistake == MarkBit) as usize),
+            _ => true,
+        };
+        if !there {
+            return Err((23, number));
+        }
+    }
+    if kind == P {
+        place_stands(case, fields, mistake)?;
+    }
+    Ok(())
+}
+
+/// 25 and 26.
+fn place_stands(case: &Case, fields: &Fields, mistake: Mistake) -> Result<(), (u64, usize)> {
+    let here = case.0[P].len();
+    let after_end = case.endless().is_some_and(|(first, length)| first + length <= here);
+    let inside = |(first, place): (usize, &Fields)| place[4].is_some_and(|length| here < first + length as usize);
+    let misplaced = fields[4].is_some_and(|length| here + length as usize > 64 || case.0[P].iter().enumerate().any(inside));
+    let refusals = [(after_end, (25, 0)), (misplaced, (25, 4))];
+    let order = if mistake == Swapped25 { [1, 0] } else { [0, 1] };
+    for (applies, refusal) in order.map(|at| refusals[at]) {
+        if applies {
+            return Err(refusal);
+        }
+    }
+    if fields[2].is_some() == (here == 0) {
+        return Err((26, 2));
+    }
+    Ok(())
+}
+
+impl Case {
+    /// First place and length of the endless loop.
+    pub fn endless(&self) -> Option<(usize, usize)> {
+        let first = self.0[P].iter().position(|place| place[4].is_some() && place[5].is_none())?;
+        Some((first, self.number(P, first, 4)))
+    }
+
+    /// A filled field that counts or refers.
+    pub fn number(&self, kind: usize, item: usize, field: usize) -> usize {
+        self.0[kind][item][field].expect("a filled field") as usize
+    }
+}
