@@ -1,0 +1,409 @@
+// Plain Rust that reads records and collects them into a case with `&mut self`: the same tests as the proved collector's.
+const WIDTH: usize = 7;
+const FIELDS: usize = 8;
+pub const LENGTH: usize = 58;
+
+#[derive(Clone, Copy, PartialEq)]
+enum Field {
+    Blank,
+    Number(i32),
+    Bad,
+}
+
+#[derive(Clone, Copy, PartialEq)]
+#[repr(usize)]
+pub enum Kind {
+    State,
+    Guard,
+    Move,
+    Sentence,
+    Place,
+}
+
+#[derive(Clone, Copy)]
+enum Sort {
+    Propositions,
+    Coefficient,
+    Bound,
+    Update,
+    Form,
+    Proposition,
+    Marks,
+    LoopLength,
+    Rounds,
+    Reference(Kind),
+}
+
+#[derive(Clone, Copy)]
+enum Rule {
+    Blank,
+    Needed(Sort),
+    Optional(Sort),
+}
+
+#[derive(Clone, Copy, PartialEq, Debug)]
+pub enum Answer {
+    Taken,
+    Refused(u8, u8),
+}
+
+#[derive(Clone, Copy)]
+pub struct State {
+    pub propositions: u16,
+}
+
+#[derive(Clone, Copy)]
+pub struct Guard {
+    pub coefficients: [i16; 4],
+    pub bound: i32,
+}
+
+#[derive(Clone, Copy)]
+pub struct Move {
+    pub from: u8,
+    pub to: u8,
+    pub updates: [i16; 4],
+    pub guard1: Option<u8>,
+    pub guard2: Option<u8>,
+}
+
+#[derive(Clone, Copy)]
+pub enum Form {
+    True,
+    Proposition(u8),
+    Guard(u8),
+    And(u8, u8),
+    Not(u8),
+    Next(u8),
+    Until { held: u8, goal: u8, bound: i32, term1: Option<(i16, u8)>, term2: Option<(i16, u8)> },
+}
+
+#[derive(Clone, Copy)]
+pub enum LoopMark {
+    None,
+    Counted { length: u8, rounds: u32, back: u8 },
+    Endless { length: u8, back: u8 },
+}
+
+#[derive(Clone, Copy)]
+pub struct Place {
+    pub state: u8,
+    pub way: Option<u8>,
+    pub marks: u32,
+    pub mark: LoopMark,
+}
+
+pub struct Case {
+    pub count: [usize; 5],
+    pub end: usize,
+    pub endless: bool,
+    pub states: [State; 32],
+    pub guards: [Guard; 32],
+    pub moves: [Move; 64],
+    pub sentences: [Form; 20],
+    pub places: [Place; 64],
+}
+
+const ROOM: [usize; 5] = [32, 32, 64, 20, 64];
+
+fn read_field(part: &[u8]) -> Field {
+    let mut i = 0;
+    while i < part.len() && part[i] == b' ' {
+        i += 1;
+    }
+    if i == part.len() {
+        return Field::Blank;
+    }
+    let negative = part[i] == b'-';
+    if negative {
+        i += 1;
+        if i == part.len() {
+            return Field::Bad;
+        }
+    } else if part[i] == b'0' {
+        return if i + 1 == part.len() { Field::Number(0) } else { Field::Bad };
+    }
+    if !(b'1'..=b'9').contains(&part[i]) {
+        return Field::Bad;
+    }
+    let mut n = 0i32;
+    while i < part.len() {
+        let b = part[i];
+        if !b.is_ascii_digit() {
+            return Field::Bad;
+        }
+        n = 10 * n + (b - b'0') as i32;
+        i += 1;
+    }
+    Field::Number(if negative { -n } else { n })
+}
+
+fn natural(f: Field) -> u32 {
+    match f {
+        Field::Number(x) if x >= 0 => x as u32,
+        _ => 0,
+    }
+}
+
+fn integer(f: Field) -> i32 {
+    match f {
+        Field::Number(x) => x,
+        _ => 0,
+    }
+}
+
+fn reference(f: Field) -> Option<u8> {
+    match f {
+        Field::Number(x) => Some(x as u8),
+        _ => None,
+    }
+}
+
+fn filled(f: Field) -> bool {
+    matches!(f, Field::Number(_))
+}
+
+fn needed_if(needed: bool, sort: Sort) -> Rule {
+    if needed {
+        Rule::Needed(sort)
+    } else {
+        Rule::Optional(sort)
+    }
+}
+
+fn rule(kind: Kind, form: u32, x: &[Field; FIELDS], k: usize) -> Rule {
+    use Rule::{Blank, Needed, Optional};
+    let f = |n: usize| filled(x[n - 1]);
+    match kind {
+        Kind::State => {
+            if k == 0 {
+                Needed(Sort::Propositions)
+            } else {
+                Blank
+            }
+        }
+        Kind::Guard => {
+            if k < 4 {
+                Needed(Sort::Coefficient)
+            } else if k == 4 {
+                Needed(Sort::Bound)
+            } else {
+                Blank
+            }
+        }
+        Kind::Move => match k {
+            0 | 1 => Needed(Sort::Reference(Kind::State)),
+            2..=5 => Needed(Sort::Update),
+            6 => needed_if(f(8), Sort::Reference(Kind::Guard)),
+            _ => Optional(Sort::Reference(Kind::Guard)),
+        },
+        Kind::Sentence => match (k, form) {
+            (0, _) => Needed(Sort::Form),
+            (1, 1) => Needed(Sort::Proposition),
+            (1, 2) => Needed(Sort::Reference(Kind::Guard)),
+            (1, 3..=6) | (2, 3) | (2, 6) => Needed(Sort::Reference(Kind::Sentence)),
+            (3, 6) => Needed(Sort::Bound),
+            (4, 6) => needed_if(f(6) || f(7) || f(8), Sort::Coefficient),
+            (5, 6) => needed_if(f(5) || f(7) || f(8), Sort::Reference(Kind::Sentence)),
+            (6, 6) => needed_if(f(8), Sort::Coefficient),
+            (7, 6) => needed_if(f(7), Sort::Reference(Kind::Sentence)),
+            _ => Blank,
+        },
+        Kind::Place => match k {
+            0 => Needed(Sort::Reference(Kind::State)),
+            1 => Optional(Sort::Reference(Kind::Move)),
+            2 => Needed(Sort::Marks),
+            3 => needed_if(f(5) || f(6), Sort::LoopLength),
+            4 => Optional(Sort::Rounds),
+            5 => needed_if(f(4), Sort::Reference(Kind::Move)),
+            _ => Blank,
+        },
+    }
+}
+
+fn range(sort: Sort) -> (i32, i32) {
+    match sort {
+        Sort::Propositions => (0, 65535),
+        Sort::Coefficient => (-999, 999),
+        Sort::Bound => (-999999, 9999999),
+        Sort::Update => (-9999, 9999),
+        Sort::Form => (0, 6),
+        Sort::Proposition => (0, 15),
+        Sort::Marks => (0, 1048575),
+        Sort::LoopLength => (1, 64),
+        Sort::Rounds => (1, 1000000),
+        Sort::Reference(_) => (0, 63),
+    }
+}
+
+fn outside(sort: Sort, f: Field) -> bool {
+    let (low, high) = range(sort);
+    matches!(f, Field::Number(x) if x < low || high < x)
+}
+
+impl Case {
+    pub fn empty() -> Case {
+        Case {
+            count: [0; 5],
+            end: 0,
+            endless: false,
+            states: [State { propositions: 0 }; 32],
+            guards: [Guard { coefficients: [0; 4], bound: 0 }; 32],
+            moves: [Move { from: 0, to: 0, updates: [0; 4], guard1: None, guard2: None }; 64],
+            sentences: [Form::True; 20],
+            places: [Place { state: 0, way: None, marks: 0, mark: LoopMark::None }; 64],
+        }
+    }
+
+    fn lowest(test: impl Fn(usize) -> bool) -> Option<u8> {
+        (0..FIELDS).find(|&k| test(k)).map(|k| k as u8 + 1)
+    }
+
+    fn fields_answer(kind: Kind, form: u32, x: &[Field; FIELDS]) -> Answer {
+        // one pass settles a record that is right
+        let wrong = |k: usize| match rule(kind, form, x, k) {
+            Rule::Blank => x[k] != Field::Blank,
+            Rule::Needed(sort) => !filled(x[k]) || outside(sort, x[k]),
+            Rule::Optional(sort) => x[k] == Field::Bad || outside(sort, x[k]),
+        };
+        if (0..FIELDS).all(|k| !wrong(k)) {
+            return Answer::Taken;
+        }
+        if let Some(k) = Case::lowest(|k| x[k] == Field::Bad) {
+            return Answer::Refused(14, k);
+        }
+        if kind == Kind::Sentence && outside(Sort::Form, x[0]) {
+            return Answer::Refused(16, 1);
+        }
+        if let Some(k) = Case::lowest(|k| matches!(rule(kind, form, x, k), Rule::Needed(_)) && x[k] == Field::Blank) {
+            return Answer::Refused(15, k);
+        }
+        if let Some(k) = Case::lowest(|k| matches!(rule(kind, form, x, k), Rule::Blank) && filled(x[k])) {
+            return Answer::Refused(15, k);
+        }
+        let far = |k: usize| match rule(kind, form, x, k) {
+            Rule::Blank => false,
+            Rule::Needed(sort) | Rule::Optional(sort) => outside(sort, x[k]),
+        };
+        match Case::lowest(far) {
+            Some(k) => Answer::Refused(16, k),
+            None => Answer::Taken,
+        }
+    }
+
+    fn state_answer(&self, kind: Kind, form: u32, x: &[Field; FIELDS]) -> Answer {
+        let rank = kind as usize;
+        if self.count[rank + 1..].iter().any(|&n| n > 0) {
+            return Answer::Refused(21, 0);
+        }
+        if ROOM[rank] <= self.count[rank] {
+            return Answer::Refused(22, 0);
+        }
+        let absent = |k: usize| match (rule(kind, form, x, k), x[k]) {
+            (Rule::Needed(Sort::Reference(to)) | Rule::Optional(Sort::Reference(to)), Field::Number(n)) => self.count[to as usize] as i32 <= n,
+            (Rule::Needed(Sort::Marks), Field::Number(n)) => (n as u32) >> self.count[3] != 0,
+            _ => false,
+        };
+        if let Some(k) = Case::lowest(absent) {
+            return Answer::Refused(23, k);
+        }
+        if kind != Kind::Place {
+            return Answer::Taken;
+        }
+        let n = self.count[4];
+        if self.endless && self.end <= n {
+            return Answer::Refused(25, 0);
+        }
+        if filled(x[3]) && (n < self.end || 64 < n + natural(x[3]) as usize) {
+            return Answer::Refused(25, 4);
+        }
+        if filled(x[1]) == (n == 0) {
+            return Answer::Refused(26, 2);
+        }
+        Answer::Taken
+    }
+
+    fn store(&mut self, kind: Kind, form: u32, x: &[Field; FIELDS]) {
+        let byte = |k: usize| natural(x[k]) as u8;
+        let short = |k: usize| integer(x[k]) as i16;
+        let term = |k: usize| if filled(x[k]) { Some((short(k), byte(k + 1))) } else { None };
+        let n = self.count[kind as usize];
+        match kind {
+            Kind::State => self.states[n] = State { propositions: natural(x[0]) as u16 },
+            Kind::Guard => self.guards[n] = Guard { coefficients: [short(0), short(1), short(2), short(3)], bound: integer(x[4]) },
+            Kind::Move => {
+                self.moves[n] = Move {
+                    from: byte(0),
+                    to: byte(1),
+                    updates: [short(2), short(3), short(4), short(5)],
+                    guard1: reference(x[6]),
+                    guard2: reference(x[7]),
+                }
+            }
+            Kind::Sentence => {
+                self.sentences[n] = match form {
+                    1 => Form::Proposition(byte(1)),
+                    2 => Form::Guard(byte(1)),
+                    3 => Form::And(byte(1), byte(2)),
+                    4 => Form::Not(byte(1)),
+                    5 => Form::Next(byte(1)),
+                    6 => Form::Until { held: byte(1), goal: byte(2), bound: integer(x[3]), term1: term(4), term2: term(6) },
+                    _ => Form::True,
+                }
+            }
+            Kind::Place => {
+                let length = byte(3);
+                let mark = match (x[3], x[4]) {
+                    (Field::Number(_), Field::Blank) => LoopMark::Endless { length, back: byte(5) },
+                    (Field::Number(_), Field::Number(_)) => LoopMark::Counted { length, rounds: natural(x[4]), back: byte(5) },
+                    _ => LoopMark::None,
+                };
+                if !matches!(mark, LoopMark::None) {
+                    self.end = n + length as usize;
+                    self.endless = matches!(mark, LoopMark::Endless { .. });
+                }
+                self.places[n] = Place { state: byte(0), way: reference(x[1]), marks: natural(x[2]), mark };
+            }
+        }
+        self.count[kind as usize] = n + 1;
+    }
+
+    pub fn take(&mut self, bytes: &[u8]) -> Answer {
+        if bytes.len() != LENGTH {
+            return Answer::Refused(11, 0);
+        }
+        if bytes[LENGTH - 1] != b'\n' {
+            return Answer::Refused(12, 0);
+        }
+        let kind = match bytes[0] {
+            b'S' => Kind::State,
+            b'G' => Kind::Guard,
+            b'T' => Kind::Move,
+            b'F' => Kind::Sentence,
+            b'P' => Kind::Place,
+            _ => return Answer::Refused(13, 0),
+        };
+        let mut x = [Field::Blank; FIELDS];
+        for (k, field) in x.iter_mut().enumerate() {
+            *field = read_field(&bytes[1 + k * WIDTH..1 + (k + 1) * WIDTH]);
+        }
+        let form = natural(x[0]);
+        let mut answer = Case::fields_answer(kind, form, &x);
+        if answer == Answer::Taken {
+            answer = self.state_answer(kind, form, &x);
+        }
+        if answer == Answer::Taken {
+            self.store(kind, form, &x);
+        }
+        answer
+    }
+}
+
+// A record of a kind with these fields, each set to the right.
+pub fn record(kind: char, fields: &[String]) -> String {
+    let mut line = kind.to_string();
+    for k in 0..FIELDS {
+        line += &format!("{:>7}", fields.get(k).map_or("", |f| f.as_str()));
+    }
+    line + "\n"
+}

@@ -1,0 +1,377 @@
+// Plain Rust that judges a case, by the same computation as the proved judge's: one pass forward over the places for the counters, and one
+// backward for each until. Its cost doesn't depend on the number of rounds.
+use crate::plain::{Answer, Case, Form, LoopMark, LENGTH};
+
+const COUNTERS: usize = 4;
+const PLACES: usize = 64;
+
+type Counters = [i64; COUNTERS];
+
+// Whether something is true in every round of a place, in none, or in some only.
+#[derive(Clone, Copy, PartialEq)]
+pub enum Throughout {
+    Always,
+    Never,
+    Changes,
+}
+use Throughout::{Always, Changes, Never};
+
+// Rounds, counted from 0: none, those up to a last one, or all.
+#[derive(Clone, Copy)]
+enum Rounds {
+    None,
+    UpTo(u32),
+    Ever,
+}
+
+// The best sum that an until can reach: none, a number, or one as great as you like.
+#[derive(Clone, Copy, PartialEq, PartialOrd, Eq, Ord)]
+enum Best {
+    None,
+    Sum(i64),
+    Any,
+}
+
+// What a place is for an until.
+#[derive(Clone, Copy)]
+struct Label {
+    goal: bool,
+    held: bool,
+    weight: i64,
+}
+
+// The run of a plan: by place, the first place of its loop or itself, and the counters in its first round; what a round adds, by first place.
+pub struct Run {
+    first: [u8; PLACES],
+    base: [Counters; PLACES],
+    drift: [Counters; PLACES],
+}
+
+fn flag(x: bool) -> Throughout {
+    if x {
+        Always
+    } else {
+        Never
+    }
+}
+
+fn agree(first: bool, last: bool) -> Throughout {
+    if first == last {
+        flag(first)
+    } else {
+        Changes
+    }
+}
+
+impl Rounds {
+    // All but the first of them, counted from 0 again.
+    fn later(self) -> Rounds {
+        match self {
+            Rounds::UpTo(last) if last > 0 => Rounds::UpTo(last - 1),
+            Rounds::Ever => Rounds::Ever,
+            _ => Rounds::None,
+        }
+    }
+}
+
+impl LoopMark {
+    fn length(self) -> usize {
+        match self {
+            LoopMark::None => 1,
+            LoopMark::Counted { length, .. } | LoopMark::Endless { length, .. } => length as usize,
+        }
+    }
+
+    fn rounds(self) -> Rounds {
+        match self {
+            LoopMark::None => Rounds::UpTo(0),
+            LoopMark::Counted { rounds, .. } => Rounds::UpTo(rounds - 1),
+            LoopMark::Endless { .. } => Rounds::Ever,
+        }
+    }
+
+    fn back(self) -> Option<u8> {
+        match self {
+            LoopMark::None => None,
+            LoopMark::Counted { back, .. } | LoopMark::Endless { back, .. } => Some(back),
+        }
+    }
+}
+
+impl Best {
+    fn plus(self, weight: i64) -> Best {
+        match self {
+            Best::Sum(sum) => Best::Sum(sum + weight),
+            other => other,
+        }
+    }
+
+    // The best at a place, where self is the best at the next.
+    fn step(self, label: &Label) -> Best {
+        let stop = if label.goal { Best::Sum(0) } else { Best::None };
+        let go = if label.held { self.plus(label.weight) } else { Best::None };
+        stop.max(go)
+    }
+
+    // The best before a number of rounds, where self is the best after them, within the best inside a round and sum that of a whole one.
+    fn before(self, rounds: u32, within: Best, sum: Option<i64>) -> Best {
+        match sum {
+            _ if rounds == 0 => self,
+            None => within,
+            Some(sum) => within.plus((rounds as i64 - 1) * sum.max(0)).max(self.plus(rounds as i64 * sum)),
+        }
+    }
+
+    // The same for rounds without end.
+    fn endless(within: Best, sum: Option<i64>) -> Best {
+        match (within, sum) {
+            (Best::Sum(_), Some(sum)) if sum > 0 => Best::Any,
+            _ => within,
+        }
+    }
+}
+
+impl Run {
+    pub fn of(case: &Case) -> Run {
+        let mut run = Run { first: [0; PLACES], base: [[0; COUNTERS]; PLACES], drift: [[0; COUNTERS]; PLACES] };
+        let mut counters = [0; COUNTERS];
+        let mut first = 0;
+        while first < case.places() {
+            let mark = case.places[first].mark;
+            let end = first + mark.length();
+            for p in first..end {
+                if let Some(way) = case.places[p].way {
+                    for j in 0..COUNTERS {
+                        counters[j] += case.moves[way as usize].updates[j] as i64;
+                    }
+                }
+                run.first[p] = first as u8;
+                run.base[p] = counters;
+            }
+            if let Some(back) = mark.back() {
+                for j in 0..COUNTERS {
+                    run.drift[first][j] = counters[j] - run.base[first][j] + case.moves[back as usize].updates[j] as i64;
+                }
+            }
+            if let Rounds::UpTo(again) = mark.rounds() {
+                for j in 0..COUNTERS {
+                    counters[j] += again as i64 * run.drift[first][j];
+                }
+            }
+            first = end;
+        }
+        run
+    }
+}
+
+impl Case {
+    pub fn sentences(&self) -> usize {
+        self.count[3]
+    }
+
+    pub fn places(&self) -> usize {
+        self.count[4]
+    }
+
+    fn marked(&self, sentence: u8, place: usize) -> bool {
+        self.places[place].marks >> sentence & 1 == 1
+    }
+
+    // The judgement's three numbers.
+    fn judge(&self) -> [usize; 3] {
+        if self.sentences() == 0 || !self.endless || self.places() < self.end {
+            return [24, self.count.iter().sum(), 0];
+        }
+        if self.places[0].state != 0 {
+            return [31, 0, 0];
+        }
+        if let Some((place, way)) = self.unconnected() {
+            return [32, place, way as usize];
+        }
+        let run = Run::of(self);
+        if let Some((place, guard)) = self.failing(&run) {
+            return [33, place, guard as usize];
+        }
+        if let Some((place, sentence)) = self.wrong_mark(&run) {
+            return [34, place, sentence];
+        }
+        let root = self.sentences() - 1;
+        if !self.marked(root as u8, 0) {
+            return [35, 0, root];
+        }
+        [0, 0, 0]
+    }
+
+    // The first place and the first move into it that doesn't connect.
+    fn unconnected(&self) -> Option<(usize, u8)> {
+        let connects = |way: u8, before: usize, place: usize| {
+            let step = &self.moves[way as usize];
+            step.from == self.places[before].state && step.to == self.places[place].state
+        };
+        for p in 0..self.places() {
+            let place = &self.places[p];
+            if let Some(way) = place.way {
+                if !connects(way, p - 1, p) {
+                    return Some((p, way));
+                }
+            }
+            if let Some(back) = place.mark.back() {
+                if !connects(back, p + place.mark.length() - 1, p) {
+                    return Some((p, back));
+                }
+            }
+        }
+        None
+    }
+
+    // A guard over rounds, from the counters in the first of them and what each adds.
+    fn guard_through(&self, guard: u8, base: &Counters, drift: &Counters, rounds: Rounds) -> Throughout {
+        let guard = &self.guards[guard as usize];
+        let dot = |counters: &Counters| -> i64 { (0..COUNTERS).map(|j| guard.coefficients[j] as i64 * counters[j]).sum() };
+        let bound = guard.bound as i64;
+        match rounds {
+            Rounds::None => Always,
+            Rounds::UpTo(last) => {
+                let sum = dot(base);
+                agree(bound <= sum, bound <= sum + last as i64 * dot(drift))
+            }
+            Rounds::Ever => match (bound <= dot(base), dot(drift)) {
+                (true, 0..) => Always,
+                (false, ..=0) => Never,
+                _ => Changes,
+            },
+        }
+    }
+
+    // The first place and the first guard of a move into it that fails.
+    fn failing(&self, run: &Run) -> Option<(usize, u8)> {
+        let fails = |way: u8, base: &Counters, drift: &Counters, rounds: Rounds| {
+            let step = &self.moves[way as usize];
+            let guards = [step.guard1, step.guard2];
+            guards.into_iter().flatten().find(|&guard| self.guard_through(guard, base, drift, rounds) != Always)
+        };
+        for p in 0..self.places() {
+            let place = &self.places[p];
+            let first = run.first[p] as usize;
+            let (base, drift, rounds) = (&run.base[p], &run.drift[first], self.places[first].mark.rounds());
+            if let Some(way) = place.way {
+                // into the first place once, else in every round
+                let rounds = if p == first { Rounds::UpTo(0) } else { rounds };
+                if let Some(guard) = fails(way, base, drift, rounds) {
+                    return Some((p, guard));
+                }
+            }
+            if let Some(back) = place.mark.back() {
+                let second = std::array::from_fn(|j| base[j] + drift[j]);
+                if let Some(guard) = fails(back, &second, drift, rounds.later()) {
+                    return Some((p, guard));
+                }
+            }
+        }
+        None
+    }
+
+    // The first sentence that is marked wrongly, and the first place where it is.
+    fn wrong_mark(&self, run: &Run) -> Option<(usize, usize)> {
+        for i in 0..self.sentences() {
+            let truth = self.truth(run, i);
+            for p in 0..self.places() {
+                if truth[p] != flag(self.marked(i as u8, p)) {
+                    return Some((p, i));
+                }
+            }
+        }
+        None
+    }
+
+    // A sentence over the rounds of each place, by the marks of the sentences below it.
+    pub fn truth(&self, run: &Run, sentence: usize) -> [Throughout; PLACES] {
+        match self.sentences[sentence] {
+            Form::True => self.at_places(|_| Always),
+            Form::Proposition(k) => self.at_places(|p| flag(self.states[self.places[p].state as usize].propositions >> k & 1 == 1)),
+            Form::Guard(guard) => self.at_places(|p| {
+                let first = run.first[p] as usize;
+                self.guard_through(guard, &run.base[p], &run.drift[first], self.places[first].mark.rounds())
+            }),
+            Form::And(a, b) => self.at_places(|p| flag(self.marked(a, p) && self.marked(b, p))),
+            Form::Not(a) => self.at_places(|p| flag(!self.marked(a, p))),
+            Form::Next(a) => self.at_places(|p| self.next(run, a, p)),
+            Form::Until { held, goal, bound, term1, term2 } => {
+                let worth = |term: Option<(i16, u8)>, p: usize| match term {
+                    Some((coefficient, counted)) if self.marked(counted, p) => coefficient as i64,
+                    _ => 0,
+                };
+                let label = |p: usize| Label { goal: self.marked(goal, p), held: self.marked(held, p), weight: worth(term1, p) + worth(term2, p) };
+                self.until(run, label, bound as i64)
+            }
+        }
+    }
+
+    fn at_places(&self, truth: impl Fn(usize) -> Throughout) -> [Throughout; PLACES] {
+        let mut row = [Never; PLACES];
+        for p in 0..self.places() {
+            row[p] = truth(p);
+        }
+        row
+    }
+
+    fn next(&self, run: &Run, a: u8, p: usize) -> Throughout {
+        let first = run.first[p] as usize;
+        let mark = self.places[first].mark;
+        if p + 1 < first + mark.length() {
+            return flag(self.marked(a, p + 1));
+        }
+        match mark.rounds() {
+            Rounds::Ever => flag(self.marked(a, first)),
+            Rounds::UpTo(again) if again > 0 => agree(self.marked(a, first), self.marked(a, p + 1)),
+            _ => flag(self.marked(a, p + 1)),
+        }
+    }
+
+    // Until at each place, from the last place to the first: the best sums in its first round and in its last against the bound.
+    fn until(&self, run: &Run, label: impl Fn(usize) -> Label, bound: i64) -> [Throughout; PLACES] {
+        let mut labels = [Label { goal: false, held: false, weight: 0 }; PLACES];
+        for p in 0..self.places() {
+            labels[p] = label(p);
+        }
+        let mut row = [Never; PLACES];
+        let mut end = self.places();
+        let mut after = Best::None;
+        while end > 0 {
+            let first = run.first[end - 1] as usize;
+            let labels = &labels[first..end];
+            let (mut early, mut late) = (after, after);
+            let mark = self.places[first].mark;
+            if mark.back().is_some() {
+                let within = labels.iter().rev().fold(Best::None, Best::step);
+                let sum = labels.iter().map(|l| if l.held { Some(l.weight) } else { None }).sum();
+                match mark.rounds() {
+                    Rounds::UpTo(again) => early = after.before(again, within, sum),
+                    _ => {
+                        early = Best::endless(within, sum);
+                        late = early;
+                    }
+                }
+            }
+            for (label, truth) in labels.iter().zip(&mut row[first..end]).rev() {
+                early = early.step(label);
+                late = late.step(label);
+                *truth = agree(Best::Sum(bound) <= early, Best::Sum(bound) <= late);
+            }
+            after = early;
+            end = first;
+        }
+        row
+    }
+}
+
+// The three numbers of a file.
+pub fn answer(src: &[u8]) -> [usize; 3] {
+    let mut case = Case::empty();
+    for (n, bytes) in src.chunks(LENGTH).enumerate() {
+        if let Answer::Refused(result, field) = case.take(bytes) {
+            return [result as usize, n, field as usize];
+        }
+    }
+    case.judge()
+}
