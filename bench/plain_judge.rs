@@ -24,20 +24,16 @@ enum Rounds {
     Ever,
 }
 
-// The best sum that an until can reach: none, a number, or one as great as you like.
-#[derive(Clone, Copy, PartialEq, PartialOrd, Eq, Ord)]
-enum Best {
-    None,
-    Sum(i64),
-    Any,
-}
+// Best sums of an until as numbers: no sum, sums without end, and less than any sum of a part of a round.
+const NONE: i64 = -10_000_000_000_000_000;
+const ANY: i64 = 100_000_000_000_000;
+const LEAST: i64 = -1_000_000;
 
-// What a place is for an until.
+// What a place does to the best sum of the next: what stopping there gives, and what going on from there adds.
 #[derive(Clone, Copy)]
-struct Label {
-    goal: bool,
-    held: bool,
-    weight: i64,
+struct Step {
+    stop: i64,
+    go: i64,
 }
 
 // The run of a plan: by place, the first place of its loop or itself, and the counters in its first round; what a round adds, by first place.
@@ -98,36 +94,19 @@ impl LoopMark {
     }
 }
 
-impl Best {
-    fn plus(self, weight: i64) -> Best {
-        match self {
-            Best::Sum(sum) => Best::Sum(sum + weight),
-            other => other,
-        }
+impl Step {
+    // The best at a place, where v is the best at the next.
+    fn before(v: i64, step: &Step) -> i64 {
+        step.stop.max(step.go + v)
     }
+}
 
-    // The best at a place, where self is the best at the next.
-    fn step(self, label: &Label) -> Best {
-        let stop = if label.goal { Best::Sum(0) } else { Best::None };
-        let go = if label.held { self.plus(label.weight) } else { Best::None };
-        stop.max(go)
-    }
-
-    // The best before a number of rounds, where self is the best after them, within the best inside a round and sum that of a whole one.
-    fn before(self, rounds: u32, within: Best, sum: Option<i64>) -> Best {
-        match sum {
-            _ if rounds == 0 => self,
-            None => within,
-            Some(sum) => within.plus((rounds as i64 - 1) * sum.max(0)).max(self.plus(rounds as i64 * sum)),
-        }
-    }
-
-    // The same for rounds without end.
-    fn endless(within: Best, sum: Option<i64>) -> Best {
-        match (within, sum) {
-            (Best::Sum(_), Some(sum)) if sum > 0 => Best::Any,
-            _ => within,
-        }
+// n rounds and then v, where within is the best inside a round and sum that of a whole one.
+fn power(n: u32, within: i64, sum: i64, v: i64) -> i64 {
+    match n {
+        0 => v,
+        _ if sum < LEAST => within,
+        n => (within + (n as i64 - 1) * sum.max(0)).max(v + n as i64 * sum),
     }
 }
 
@@ -301,8 +280,11 @@ impl Case {
                     Some((coefficient, counted)) if self.marked(counted, p) => coefficient as i64,
                     _ => 0,
                 };
-                let label = |p: usize| Label { goal: self.marked(goal, p), held: self.marked(held, p), weight: worth(term1, p) + worth(term2, p) };
-                self.until(run, label, bound as i64)
+                let step = |p: usize| Step {
+                    stop: if self.marked(goal, p) { 0 } else { NONE },
+                    go: if self.marked(held, p) { worth(term1, p) + worth(term2, p) } else { NONE },
+                };
+                self.until(run, step, bound as i64)
             }
         }
     }
@@ -329,34 +311,34 @@ impl Case {
     }
 
     // Until at each place, from the last place to the first: the best sums in its first round and in its last against the bound.
-    fn until(&self, run: &Run, label: impl Fn(usize) -> Label, bound: i64) -> [Throughout; PLACES] {
-        let mut labels = [Label { goal: false, held: false, weight: 0 }; PLACES];
+    fn until(&self, run: &Run, step: impl Fn(usize) -> Step, bound: i64) -> [Throughout; PLACES] {
+        let mut steps = [Step { stop: NONE, go: NONE }; PLACES];
         for p in 0..self.places() {
-            labels[p] = label(p);
+            steps[p] = step(p);
         }
         let mut row = [Never; PLACES];
         let mut end = self.places();
-        let mut after = Best::None;
+        let mut after = NONE;
         while end > 0 {
             let first = run.first[end - 1] as usize;
-            let labels = &labels[first..end];
+            let steps = &steps[first..end];
             let (mut early, mut late) = (after, after);
             let mark = self.places[first].mark;
             if mark.back().is_some() {
-                let within = labels.iter().rev().fold(Best::None, Best::step);
-                let sum = labels.iter().map(|l| if l.held { Some(l.weight) } else { None }).sum();
+                let within = steps.iter().rev().fold(NONE, Step::before);
+                let sum = steps.iter().map(|step| step.go).sum();
                 match mark.rounds() {
-                    Rounds::UpTo(again) => early = after.before(again, within, sum),
+                    Rounds::UpTo(again) => early = power(again, within, sum, after),
                     _ => {
-                        early = Best::endless(within, sum);
+                        early = if sum <= 0 || within < LEAST { within } else { ANY };
                         late = early;
                     }
                 }
             }
-            for (label, truth) in labels.iter().zip(&mut row[first..end]).rev() {
-                early = early.step(label);
-                late = late.step(label);
-                *truth = agree(Best::Sum(bound) <= early, Best::Sum(bound) <= late);
+            for (step, truth) in steps.iter().zip(&mut row[first..end]).rev() {
+                early = Step::before(early, step);
+                late = Step::before(late, step);
+                *truth = agree(bound <= early, bound <= late);
             }
             after = early;
             end = first;

@@ -1,3 +1,5 @@
-pub mod Labels
-pub mod Far
-pub mod Front
+pub mod Numbers
+pub mod Bounds
+pub mod Over
+pub mod Stretches
+pub mod Shows

@@ -35,7 +35,7 @@ module _ {x : Items} (f : Facts x) where
             (sym (List·getD-eq-default (x .places) (noItem kind.Place) {n = q} (omega arith))) (omega arith)
       ]
 
-  repeats-size : (p : ℕ) → repeats (markAt (x .places) p) ≤ 1000000
+  pub repeats-size : (p : ℕ) → repeats (markAt (x .places) p) ≤ 1000000
   repeats-size p = go (markAt (x .places) p) refl
     where
       go : (m : LoopMark) → markAt (x .places) p ≡ m → repeats m ≤ 1000000

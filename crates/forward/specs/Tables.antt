@@ -1,7 +1,8 @@
--- The tables of judging: entry p of each is the definition at place p, for every place that a case has room for.
-use mathlib.Core.List.{List}
-use Prim.Native.Nat.{ℕ}
-use lib.IntN.{ℤ}
+-- The tables of judging: entry p of each is the definition at place p; drifts and bases are 0 past the places that are held.
+use mathlib.Core.List.{List, _++_}
+use Prim.Native.Nat.{ℕ, _-_}
+use lib.IntN.{ℤ, pos}
+use lib.ListN.{length, replicate}
 use Rattle.integer.specs.Tab.{tab}
 use Rattle.kinds.specs.declared.Kind.the-variants as kind
 use Rattle.items.specs.declared.Ref.{Ref}
@@ -21,6 +22,10 @@ use Rattle.forward.specs.declared.Tables.{Tables}
 abbrev pub vecOf : (ℕ → ℤ) → Counters
 vecOf f = record { at = vec f }
 
+-- 0 for each counter
+abbrev pub noValues : Counters
+noValues = vecOf (λ j. pos 0)
+
 -- the number of the move that a reference names, and one past the room for moves where it names none
 abbrev pub slotOf : Ref → ℕ
 slotOf ref.None = roomOf kind.Move
@@ -30,21 +35,25 @@ slotOf (ref.At t) = t
 abbrev pub firstsOf : List Place → Firsts
 firstsOf ps = record { at = tab (roomOf kind.Place) 0 (firstOf ps) }
 
--- values for each counter j at each place p
-abbrev pub tableOf : (ℕ → ℕ → ℤ) → Table
-tableOf f = record { at = tab (roomOf kind.Place) 0 (λ (p : ℕ). vecOf (λ j. f j p)) }
+-- the values f j at place p
+abbrev pub valuesOf : (ℕ → ℕ → ℤ) → ℕ → Counters
+valuesOf f p = vecOf (λ j. f j p)
+
+-- the values f j at each of the first n places, and 0 past them
+abbrev pub tableOf : ℕ → (ℕ → ℕ → ℤ) → Table
+tableOf n f = record { at = tab n 0 (valuesOf f) ++ replicate (roomOf kind.Place - n) noValues }
 
 -- what the ways into the places up to each add
 abbrev pub waysOf : Items → Table
-waysOf x = tableOf (ways x)
+waysOf x = tableOf (roomOf kind.Place) (ways x)
 
 -- what a round of each place's stretch adds
 abbrev pub driftsOf : Items → Table
-driftsOf x = tableOf (λ j p. drift x j (firstOf (x .places) p))
+driftsOf x = tableOf (length (x .places)) (λ j p. drift x j (firstOf (x .places) p))
 
 -- the counters of each place in its first round
 abbrev pub basesOf : Items → Table
-basesOf x = tableOf (base x zeros)
+basesOf x = tableOf (length (x .places)) (base x zeros)
 
 -- all of them
 abbrev pub tablesOf : Items → Tables

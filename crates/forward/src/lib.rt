@@ -97,14 +97,15 @@ fn ways(c: Case) -> Table
     Table { at: at }
 }
 
-// What a round of each place's stretch adds.
+// What a round of each place's stretch adds, for the places that are held.
 fn drifts(c: Case, f: Firsts, w: Table) -> Table
     requires { ⌜ Sound c × (f ≡ firstsOf (itemsOf c .places)) × (w ≡ waysOf (itemsOf c)) ⌝ }
     ensures { λ r. ⌜ r ≡ driftsOf (itemsOf c) ⌝ }
 {
+    let n = c.count.places;
     let mut at = [counters::zero(); Case::PLACES];
     let mut p: usize = 0;
-    while p < Case::PLACES {
+    while p < n {
         let q = f.at[p] as usize;
         let place = c.places[q];
         let mark = place.mark;
@@ -124,15 +125,16 @@ fn drifts(c: Case, f: Firsts, w: Table) -> Table
     Table { at: at }
 }
 
-// The counters of each place in its first round: what the ways add, and the rounds before.
+// The counters of each place that is held in its first round: what the ways add, and the rounds before.
 fn bases(c: Case, f: Firsts, w: Table, d: Table) -> Table
     requires { ⌜ Sound c × (f ≡ firstsOf (itemsOf c .places)) × (w ≡ waysOf (itemsOf c)) × (d ≡ driftsOf (itemsOf c)) ⌝ }
     ensures { λ r. ⌜ r ≡ basesOf (itemsOf c) ⌝ }
 {
+    let n = c.count.places;
     let mut at = [counters::zero(); Case::PLACES];
     let mut r = counters::zero();
     let mut p: usize = 0;
-    while p < Case::PLACES {
+    while p < n {
         let x = w.at[p];
         let y = d.at[p];
         at[p] = counters::plus(x, r);
@@ -141,8 +143,8 @@ fn bases(c: Case, f: Firsts, w: Table, d: Table) -> Table
         let mark = place.mark;
         p = p + 1;
         if q + lines::stretch(mark) <= p {
-            let n = lines::repeats(mark);
-            r = counters::plus(r, counters::times(n, y));
+            let k = lines::repeats(mark);
+            r = counters::plus(r, counters::times(k, y));
         }
     }
     Table { at: at }

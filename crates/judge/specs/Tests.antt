@@ -21,15 +21,12 @@ use Rattle.meaning.specs.Judged.{All, none, also, zeros, from, gather, Test, te
 use Rattle.meaning.specs.Facts.{Facts}
 use Rattle.meaning.specs.Given.{facts}
 use Rattle.verdict.specs.declared.Rounds.the-variants as rounds
-use Rattle.verdict.specs.Rounds.{firstOf, roundsOf, later, roundsBy}
-use Rattle.verdict.specs.Forward.{drift, base}
+use Rattle.verdict.specs.Rounds.{roundsOf, later, roundsBy}
 use Rattle.verdict.specs.Verdict.{Found, firstNot, passes, numberOf}
-use Rattle.counters.specs.declared.Counters.{Counters}
-use Rattle.forward.specs.declared.Tables.{Tables}
-use Rattle.forward.specs.Tables.{vecOf, tablesOf}
+use Rattle.forward.specs.declared.Firsts.{Firsts}
+use Rattle.forward.specs.Tables.{firstsOf}
 use Rattle.forward.specs.Reads.{at-places, at-moves, at-guards}
-use Rattle.forward.specs.Entries.{first-at, values-at}
-use Rattle.forward.specs.Stretches.{first-below, mark-is}
+use Rattle.marks.specs.Known.{first-is, rounds-are}
 use Rattle.judge.specs.Told.{isNamed, given}
 use Rattle.judge.specs.Laws.{found, found-start, listed, each, gather-two, gather-gather}
 use Rattle.judge.specs.Ways.{wayNo, isWay, ways-listed, move-held, move-below}
@@ -142,24 +139,12 @@ module _ {c : Case} (s : Sound c) (k : ℕ) (h : k < 4 * c .count .places) where
   pub guard-at : (d : Guard) {n : ℕ} → n ≡ numberOf (guardNo x k) → getD (c .guards) n d ≡ guardAt (x .guards) (numberOf (guardNo x k))
   guard-at d e = ap (λ n. getD (c .guards) n d) e ∙ at-guards s (numberOf (guardNo x k)) d guard-below
 
--- ---- what the code reads of place p in the tables
+-- ---- the rounds of a way into place p, as the code reads them
 
-module _ {c : Case} (s : Sound c) {t : Tables} (e : t ≡ tablesOf (itemsOf c)) (p : ℕ) (h : p < roomOf kind.Place) where
-  first-is : getD (t .firsts .at) p 0 ≡ firstOf (itemsOf c .places) p
-  first-is = first-at (itemsOf c .places) (ap (λ (t : Tables). t .firsts) e) p h
-
-  pub first-within : getD (t .firsts .at) p 0 < roomOf kind.Place
-  first-within = first-below s p h first-is
-
-  pub base-at : (d : Counters) → getD (t .bases .at) p d ≡ vecOf (λ j. base (itemsOf c) zeros j p)
-  base-at d = values-at (base (itemsOf c) zeros) (ap (λ (t : Tables). t .bases) e) p d h
-
-  pub drift-at : (d : Counters) → getD (t .drifts .at) p d ≡ vecOf (λ j. drift (itemsOf c) j (firstOf (itemsOf c .places) p))
-  drift-at d = values-at (λ j q. drift (itemsOf c) j (firstOf (itemsOf c .places) q)) (ap (λ (t : Tables). t .drifts) e) p d h
-
+module _ {c : Case} (s : Sound c) {f : Firsts} (e : f ≡ firstsOf (itemsOf c .places)) (p : ℕ) (h : p < roomOf kind.Place) where
   pub rounds-at : (back : Bool) →
-      let q = getD (t .firsts .at) p 0 in
+      let q = getD (f .at) p 0 in
       let own = getD (c .places) p (noItem kind.Place) .mark in
       let around = getD (c .places) q (noItem kind.Place) .mark in
       cond back (later (roundsOf own)) (cond (eqb q p) (rounds.UpTo 0) (roundsOf around)) ≡ roundsBy (itemsOf c .places) (record { place = p; back = back })
-  rounds-at back = rw (at-places s p, mark-is s p h first-is, first-is)
+  rounds-at back = rw (at-places s p, rounds-are s e p h, first-is s e p h)

@@ -33,8 +33,3 @@ isNamed (ref.At n) = true
 abbrev pub given : Ref → Ref → Ref
 given ref.None q = ref.None
 given (ref.At n) q = q
-
--- whether a search found something
-abbrev pub isFound : Search → Bool
-isFound Nowhere = false
-isFound (At p n) = true

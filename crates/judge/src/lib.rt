@@ -13,13 +13,12 @@ ghost use Rattle.meaning.specs.Run.{stretch, backOf};
 ghost use Rattle.meaning.specs.Judged.{zeros, waysOf, testsOf, marksOf};
 ghost use Rattle.verdict.specs.declared.Rounds.the-variants as rounds;
 ghost use Rattle.verdict.specs.Rounds.{roundsOf, later};
-ghost use Rattle.verdict.specs.Verdict.{firstNot, connects, passes, right, numberOf, isAlways, isNever, verdict};
+ghost use Rattle.verdict.specs.Verdict.{firstNot, connects, passes, right, numberOf, verdict};
 ghost use Rattle.forward.specs.Tables.{tablesOf};
-ghost use Rattle.throughs.specs.Throughs.{throughsOf};
-ghost use Rattle.judge.specs.Told.{toldWay, toldTest, toldMark, isNamed, given, isFound};
+ghost use Rattle.marks.specs.Sums.{SumsFit};
+ghost use Rattle.judge.specs.Told.{toldWay, toldTest, toldMark, isNamed, given};
 ghost use Rattle.judge.specs.Tests.{guardBy};
-ghost use Rattle.judge.specs.Sums.{isMet, SumsFit};
-ghost use Rattle.judge.specs.Marks.{rowAt, formAt};
+ghost use Rattle.judge.specs.Sums.{isMet};
 ghost use Rattle.judge.specs.Stages.{held, orUnconnected, orGuardFails, orWrongMark, rootAnswer, marksAnswer, guardsAnswer};
 use counters::Counters;
 use forward::Tables;
@@ -33,9 +32,7 @@ use meaning::Judgement;
 use plan::Case;
 use plan::Loops;
 use plan::PlaceNo;
-use throughs::Throughs;
 use verdict::Rounds;
-use verdict::Throughout;
 
 // What a search found: the place, and the number of the move, the guard or the sentence.
 pub enum Search {
@@ -248,59 +245,18 @@ fn guard_fails(c: Case, t: Tables) -> Search
     Search::Nowhere
 }
 
-// Whether a mark is right, of a sentence that is so throughout the place.
-fn mark_right(t: Throughout, marked: bool) -> bool
-    ensures { λ r. ⌜ r ≡ cond marked (isAlways t) (isNever t) ⌝ }
-{
-    if marked {
-        return lines::is_always(t);
-    }
-    lines::is_never(t)
-}
-
-// The first place at which the mark of sentence i is wrong.
-fn wrong_place(c: Case, i: u8, ts: Throughs) -> Search
-    requires { ⌜ (Sound c) × (ts ≡ throughsOf (itemsOf c) (formAt (itemsOf c) i)) ⌝ }
-    ensures { λ r. ⌜ r ≡ toldMark (firstNot (right (itemsOf c) zeros) (rowAt (itemsOf c) i)) ⌝ }
-{
-    let n = c.count.places;
-    let mut p: usize = 0;
-    while p < n {
-        let place = c.places[p];
-        let cell = ts.at[p];
-        let t = cell.is;
-        if mark_right(t, throughs::bit(place.marks, i)) {
-            p = p + 1;
-        } else {
-            return Search::At(PlaceNo(p), i);
-        }
-    }
-    Search::Nowhere
-}
-
-// Whether a search found something.
-fn is_found(s: Search) -> bool
-    ensures { λ r. ⌜ r ≡ isFound s ⌝ }
-{
-    match s {
-        Search::Nowhere => false,
-        Search::At(_, _) => true,
-    }
-}
-
 // The first wrong mark: by sentence, then by place.
 fn wrong_mark(c: Case, t: Tables) -> Search
     requires { ⌜ (Sound c) × (t ≡ tablesOf (itemsOf c)) ⌝ }
     ensures { λ r. ⌜ r ≡ toldMark (firstNot (right (itemsOf c) zeros) (marksOf (itemsOf c))) ⌝ }
 {
     let n = c.count.sentences;
+    let places = c.count.places;
     let mut i: usize = 0;
     while i < n {
-        let sentence = c.sentences[i];
-        let form = sentence.form;
-        let s = wrong_place(c, i as u8, throughs::form_over(c, t, form));
-        if is_found(s) {
-            return s;
+        let p = marks::wrong_place(c, t, i as u8);
+        if p < places {
+            return Search::At(PlaceNo(p), i as u8);
         }
         i = i + 1;
     }
@@ -314,7 +270,7 @@ fn root_answer(c: Case) -> Judgement
 {
     let root = one_less(c.count.sentences) as u8;
     let first = c.places[0];
-    if throughs::bit(first.marks, root) {
+    if marks::bit(first.marks, root) {
         return Judgement::Accepted;
     }
     Judgement::RootUnmarked(root)

@@ -1,40 +1,50 @@
--- Rounds without end, by whether a whole round can be gone through. Assumes nothing.
-use mathlib.Core.Path.{_∙_}
-use mir.Syntax.{w64}
-use mir.Val.{SFits}
-use mir.Facts.{toZ-ofZ}
-use Rattle.verdict.specs.Best.{limit}
+-- The answer follows the tests. Assumes nothing.
 use borrow.Author.Needs.{needs}
+use mathlib.Core.Path.{_≡_}
+use mathlib.Core.Bool.{false}
+use lib.IntN.{pos}
+use lib.Signed.{leZ}
+use mir.Syntax.{w64}
+use mir.Val.{SFits, toZ, ofZ}
+use mir.Facts.{toZ-ofZ}
+use Rattle.best.specs.declared.Round.{Round}
+use Rattle.best.specs.Numbers.{limitBy}
 use Rattle.best.proofs.limit.Statement.{statement}
 use Rattle.best.proofs.limit.Tie as tie
 
-enum-told : tie.Need-enum-told
-enum-told c = search needs
+module _ (c : tie.After-struct-told) where
+  -- the round
+  abbrev r : Round
+  r = c .before .before .args .r
 
-enum-known-s : tie.Need-enum-known-s
-enum-known-s c = search needs
+  sum-read : toZ w64 (ofZ w64 (r .sum)) ≡ r .sum
+  sum-read = let f : SFits w64 (r .sum) = search needs in toZ-ofZ f
 
-endless-requires : tie.Need-endless-requires
-endless-requires c κs = search needs
+  within-read : toZ w64 (ofZ w64 (r .within)) ≡ r .within
+  within-read = let f : SFits w64 (r .within) = search needs in toZ-ofZ f
 
-enum-told-2 : tie.Need-enum-told-2
-enum-told-2 c = search needs
+-- a round adds something
+adds : (c : tie.Else1) → leZ (r (c .before) .sum) (pos 0) ≡ false
+adds c = simp (sum-read (c .before)) at (c .if1 .left)
 
 returns : tie.Need-returns
-unfolding limit
-returns c = search needs
+unfolding limitBy
+returns c =
+    let t = c .before .before in
+    simp (within-read t, simp (sum-read t) at (c .before .if1 .taken))
 
 returns-2 : tie.Need-returns-2
+unfolding limitBy
 returns-2 c =
-    let s = c .before .before .s .given in
-    let f : SFits w64 (s .0 .0) = search needs in
-    c .endless .ensures ∙ simp (s .1, toZ-ofZ f)
+    let e = c .before .before .before .before in
+    let w = within-read (e .before) in
+    simp (w, adds e, simp w at (c .before .if2 .taken))
 
 returns-3 : tie.Need-returns-3
-unfolding limit
-returns-3 c = search needs
+unfolding limitBy
+returns-3 c =
+    let e = c .before .before .before in
+    simp (adds e, simp (within-read (e .before)) at (c .if2 .left))
 
 pub limit-spec : {M : Type 1} → statement M
-limit-spec =
-    tie.close
-    (tie.spec enum-told enum-known-s endless-requires enum-told-2 returns returns-2 returns-3)
+limit-spec = tie.close (tie.spec returns returns-2 returns-3)

@@ -1,25 +1,32 @@
--- The greater of 0 at a goal and what lies on. Assumes nothing.
-use mathlib.Core.Path.{_∙_, ap}
-use lib.IntN.{pos}
-use Rattle.verdict.specs.Best.{step, greater}
-use Rattle.verdict.specs.declared.Best.the-variants as best
+-- The sum fits, and is read back. Assumes nothing.
 use borrow.Author.Needs.{needs}
+use mathlib.Core.Path.{_≡_, _∙_, ap₂}
+use mir.Syntax.{w64}
+use mir.Val.{SFits, toZ, ofZ}
+use mir.Facts.{toZ-ofZ}
+use Rattle.integer.specs.Sizes.{add-fits, add-read}
+use Rattle.best.specs.Numbers.{larger}
 use Rattle.best.proofs.step.Statement.{statement}
 use Rattle.best.proofs.step.Tie as tie
 
-onward-requires : tie.Need-onward-requires
-onward-requires c κs = search needs
+module _ (c : tie.Start) where
+  go-read : toZ w64 (ofZ w64 (c .args .go)) ≡ c .args .go
+  go-read = toZ-ofZ (c .fits .go)
 
-raise-requires : tie.Need-raise-requires
-raise-requires c κs = search needs
+  v-read : toZ w64 (ofZ w64 (c .args .v)) ≡ c .args .v
+  v-read = toZ-ofZ (c .fits .v)
+
+add-larger : tie.Need-add-larger
+add-larger c = add-fits w64 (go-read c) (v-read c) (c .pre)
+
+larger-requires : tie.Need-larger-requires
+larger-requires c κs = search needs
 
 returns : tie.Need-returns
-unfolding step
-returns c = c .raise .ensures ∙ ap (greater (best.Sum (pos 0))) (c .before .before .onward .ensures) ∙ simp (c .before .if1 .taken)
-
-returns-2 : tie.Need-returns-2
-unfolding step greater
-returns-2 c = c .before .onward .ensures ∙ simp (c .if1 .left)
+returns c =
+    let t = c .before in
+    let f : SFits w64 (c .larger .result) = search needs in
+    toZ-ofZ f ∙ c .larger .ensures ∙ ap₂ larger (toZ-ofZ (t .fits .stop)) (add-read w64 (go-read t) (v-read t) (t .pre))
 
 pub step-spec : {M : Type 1} → statement M
-step-spec = tie.close (tie.spec onward-requires raise-requires returns returns-2)
+step-spec = tie.close (tie.spec add-larger larger-requires returns)

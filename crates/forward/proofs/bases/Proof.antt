@@ -1,23 +1,22 @@
 -- The loop adds what the ways and the rounds before each place add. Assumes nothing.
 use borrow.Author.Needs.{needs}
-use mathlib.Core.Path.{_≡_, refl, sym, _∙_, ap}
+use mathlib.Core.Path.{_≡_, sym, _∙_, ap}
 use mathlib.Core.List.{List, []}
-use Prim.Native.Nat.{ℕ, _+_, _-_, _*_, _≤_, _<_}
+use Prim.Native.Nat.{ℕ, _+_, _-_, _≤_, _<_}
 use native.Mathlib.Omega.{arith}
 use lib.IntN.{ℤ, pos, _+ℤ_, _*ℤ_}
-use lib.ListN.{getD, set}
+use lib.ListN.{length, getD, set}
 use Rattle.integer.specs.Sizes.{mul-size}
-use Rattle.integer.specs.Tab.{Filled, fill-none, fill-all}
 use Rattle.kinds.specs.declared.Kind.the-variants as kind
 use Rattle.plan.specs.Cases.{Items, itemsOf, roomOf}
+use Rattle.rules.specs.Held.{counted}
 use Rattle.meaning.specs.Run.{stretch}
 use Rattle.meaning.specs.Judged.{zeros}
 use Rattle.meaning.specs.Given.{facts}
 use Rattle.verdict.specs.Rounds.{firstOf, loopOf}
 use Rattle.verdict.specs.Forward.{ways, drift, repeats, base}
-use Rattle.counters.specs.declared.Counters.{Counters}
 use Rattle.forward.specs.Tables.{vecOf}
-use Rattle.forward.specs.Entries.{fill-next, first-at, values-at, Has, has, values-same, of-one, of-two, both-small}
+use Rattle.forward.specs.Entries.{first-at, values-at, Has, has, values-same, of-one, of-two, both-small, Begun, begin, go-on, finish}
 use Rattle.forward.specs.Sums.{roundsBefore, base-is, rounds-done, rounds-kept}
 use Rattle.forward.specs.Sizes.{ways-size, times-size, rounds-before-size}
 use Rattle.forward.specs.Stretches.{first-below, mark-is, end-is, end-in}
@@ -25,13 +24,11 @@ use Rattle.forward.proofs.bases.Statement.{statement}
 use Rattle.forward.proofs.bases.Tie as tie
 
 abbrev Inv-loop : tie.InvT-loop
-Inv-loop c f w d at₀ r₀ p₀ at r p =
-    (p ≤ roomOf kind.Place)
-    × (r ≡ vecOf (λ j. roundsBefore (itemsOf c) j p))
-    × Filled (λ q. vecOf (λ j. base (itemsOf c) zeros j q)) (roomOf kind.Place) at p
+Inv-loop c f w d n at₀ r₀ p₀ at r p =
+    (p ≤ c .count .places) × (r ≡ vecOf (λ j. roundsBefore (itemsOf c) j p)) × Begun (base (itemsOf c) zeros) at p
 
 abbrev μ-loop : tie.MeasureT-loop
-μ-loop c f w d at₀ r₀ p₀ at r p = roomOf kind.Place - p
+μ-loop c f w d n at₀ r₀ p₀ at r p = n - p
 
 module _ (i : tie.In-loop Inv-loop μ-loop) where
   abbrev l : tie.At-loop Inv-loop μ-loop
@@ -55,7 +52,7 @@ module _ (i : tie.In-loop Inv-loop μ-loop) where
   read = getD (t .args .t2 .at) p 0
 
   below : p < roomOf kind.Place
-  below = i .loop-test .taken
+  below = omega (arith, i .loop-test .taken, t .pre .0 .room kind.Place)
 
   read-is : read ≡ q
   read-is = first-at (x .places) (t .pre .1) p below
@@ -65,13 +62,16 @@ module _ (i : tie.In-loop Inv-loop μ-loop) where
 
   -- what the ways up to it and the rounds before it add, and what a round of its stretch adds
   ways-have : Has (getD (t .args .t3 .at) p (record { at = [] })) (λ j. ways x j p)
-  ways-have = has _ (values-at (ways x) (t .pre .2) p (record { at = [] }) below)
+  ways-have = has _ (values-at (roomOf kind.Place) (ways x) (t .pre .2) p (record { at = [] }) below)
 
   rounds-have : Has (l .loop .r) (λ j. roundsBefore x j p)
   rounds-have = has _ (l .loop .inv .1)
 
   drift-has : Has (getD (t .args .t4 .at) p (record { at = [] })) (λ j. drift x j q)
-  drift-has = has _ (values-at (λ j n. drift x j (firstOf (x .places) n)) (t .pre .3) p (record { at = [] }) below)
+  drift-has =
+      has _
+      (values-at (length (x .places)) (λ j n. drift x j (firstOf (x .places) n)) (t .pre .3) p (record { at = [] })
+      (omega (arith, i .loop-test .taken, counted (t .args .t1) (t .pre .0) kind.Place)))
 
 filled : (c : tie.After-plus Inv-loop μ-loop) →
     let i = c .before .before .before in
@@ -91,8 +91,8 @@ module _ (c : tie.After-stretch Inv-loop μ-loop) where
   ends : read n + c .stretch .result ≡ q n + stretch (loopOf (x n .places) (p n))
   ends = end-is (t n .pre .0) (p n) (below n) (read-is n) (c .stretch .ensures)
 
-  next : Filled (λ m. vecOf (λ j. base (x n) zeros j m)) (roomOf kind.Place) (set (l n .loop .at) (p n) (a .plus .result)) (p n + 1)
-  next = fill-next _ (roomOf kind.Place) (l n .loop .at) (p n) (filled a) (below n) (l n .loop .inv .2)
+  next : Begun (base (x n) zeros) (set (l n .loop .at) (p n) (a .plus .result)) (p n + 1)
+  next = go-on (l n .loop .inv .2) (filled a) (below n)
 
 module _ (c : tie.After-repeats Inv-loop μ-loop) where
   abbrev e : tie.In-loop Inv-loop μ-loop
@@ -122,35 +122,35 @@ zero-requires-2 c κs = search needs
 
 loop-holds : tie.Need-loop-holds Inv-loop μ-loop
 unfolding roundsBefore
-loop-holds c =
-    (omega arith, ap (λ (a : List ℤ). record { at = a }) (c .zero2 .ensures), fill-none _ (roomOf kind.Place) _ refl)
+loop-holds c = (omega arith, ap (λ (a : List ℤ). record { at = a }) (c .zero2 .ensures), begin (c .before .zero .ensures))
 
 mul-x : tie.Need-mul-x Inv-loop μ-loop
-mul-x c = search needs
+mul-x c = record { fits = omega (arith, below c) }
 
 element-copy-out-x : tie.Need-element-copy-out-x Inv-loop μ-loop
-element-copy-out-x c = search needs
+element-copy-out-x c = below c
 
 mul-y : tie.Need-mul-y Inv-loop μ-loop
-mul-y c = search needs
+mul-y c = record { fits = omega (arith, below (c .before)) }
 
 element-copy-out-y : tie.Need-element-copy-out-y Inv-loop μ-loop
-element-copy-out-y c = search needs
+element-copy-out-y c = below (c .before)
 
 plus-requires : tie.Need-plus-requires Inv-loop μ-loop
 plus-requires c κs =
     let i = c .before .before in
+    let h = below i in
     let f = facts _ (t i .pre .0) in
     both-small (ways-have i) (rounds-have i) (λ j. omega (arith, ways-size f j (p i), rounds-before-size f j (p i) (omega arith)))
 
 mul-at : tie.Need-mul-at Inv-loop μ-loop
-mul-at c = search needs
+mul-at c = record { fits = omega (arith, below (c .before .before .before)) }
 
 array-set-from-at : tie.Need-array-set-from-at Inv-loop μ-loop
-array-set-from-at c = search needs
+array-set-from-at c = below (c .before .before .before)
 
 element-copy-out-q : tie.Need-element-copy-out-q Inv-loop μ-loop
-element-copy-out-q c = search needs
+element-copy-out-q c = below (c .before .before .before)
 
 cast-q : tie.Need-cast-q Inv-loop μ-loop
 cast-q c = record { fits = omega (arith, read-below (c .before .before .before .before)) }
@@ -162,7 +162,7 @@ element-copy-out-place : tie.Need-element-copy-out-place Inv-loop μ-loop
 element-copy-out-place c = read-below (c .before .before .before .before)
 
 add-p : tie.Need-add-p Inv-loop μ-loop
-add-p c = search needs
+add-p c = record { fits = omega (arith, below (c .before .before .before .before .before)) }
 
 stretch-requires : tie.Need-stretch-requires Inv-loop μ-loop
 stretch-requires c κs = search needs
@@ -184,11 +184,10 @@ plus-requires-2 : tie.Need-plus-requires-2 Inv-loop μ-loop
 plus-requires-2 c κs =
     let r = c .before in
     let i = e r in
+    let h = below i in
     let f = facts _ (t i .pre .0) in
     both-small (rounds-have i) (added-have c)
-    (λ j.
-    omega
-    (arith, rounds-before-size f j (p i) (omega arith), mul-size (pos (times r)) (drift (x i) j (q i)), times-size f j (p i) (below i)))
+    (λ j. omega (arith, rounds-before-size f j (p i) (omega arith), mul-size (pos (times r)) (drift (x i) j (q i)), times-size f j (p i) h))
 
 loop-less : tie.Need-loop-less Inv-loop μ-loop
 loop-less c = search needs
@@ -214,8 +213,10 @@ loop-again-2 c =
 
 returns : tie.Need-returns Inv-loop μ-loop
 returns c =
-    let m = c .before .loop in
-    ap (λ (a : List Counters). record { at = a }) (fill-all _ (roomOf kind.Place) (m .at) (m .p) (omega arith) (m .inv .2))
+    let m = c .before in
+    let s = m .before .before .before in
+    let e : m .loop .p ≡ s .args .t1 .count .places = omega arith in
+    finish (m .loop .inv .2) (e ∙ sym (counted (s .args .t1) (s .pre .0) kind.Place))
 
 pub bases-spec : {M : Type 1} → statement M
 bases-spec =

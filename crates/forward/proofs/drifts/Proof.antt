@@ -1,23 +1,23 @@
 -- The loop fills the drifts: from the sums of the ways at both ends of the stretch, and the back move. Assumes nothing.
 use borrow.Author.Needs.{needs}
-use mathlib.Core.Path.{_≡_, refl, _∙_, ap}
+use mathlib.Core.Path.{_≡_, sym, _∙_, ap}
 use mathlib.Core.Logic.{⊎-elim}
-use mathlib.Core.List.{List, []}
+use mathlib.Core.List.{[]}
 use Prim.Native.Nat.{ℕ, _+_, _-_, _≤_, _<_}
 use native.Mathlib.Omega.{arith}
 use lib.IntN.{ℤ, _-ℤ_}
 use lib.ListN.{getD}
-use Rattle.integer.specs.Tab.{Filled, fill-none, fill-all}
 use Rattle.kinds.specs.declared.Kind.the-variants as kind
 use Rattle.items.specs.declared.Ref.{Ref}
 use Rattle.plan.specs.Cases.{Items, itemsOf, roomOf}
+use Rattle.rules.specs.Held.{counted}
 use Rattle.meaning.specs.Run.{stretch, backOf}
 use Rattle.meaning.specs.Given.{facts}
 use Rattle.verdict.specs.Rounds.{firstOf, loopOf}
 use Rattle.verdict.specs.Forward.{ways, drift}
 use Rattle.counters.specs.declared.Counters.{Counters}
 use Rattle.forward.specs.Tables.{vecOf, slotOf}
-use Rattle.forward.specs.Entries.{fill-next, first-at, values-at, Has, has, of-two, both-small}
+use Rattle.forward.specs.Entries.{first-at, values-at, Has, has, of-two, both-small, Begun, begin, go-on, finish}
 use Rattle.forward.specs.Moves.{more, more-small, no-more}
 use Rattle.forward.specs.Sums.{waysWithin}
 use Rattle.forward.specs.Sizes.{ends-size, stretch-size}
@@ -26,11 +26,10 @@ use Rattle.forward.proofs.drifts.Statement.{statement}
 use Rattle.forward.proofs.drifts.Tie as tie
 
 abbrev Inv-loop : tie.InvT-loop
-Inv-loop c f w at₀ p₀ at p =
-    (p ≤ roomOf kind.Place) × Filled (λ q. vecOf (λ j. drift (itemsOf c) j (firstOf (itemsOf c .places) q))) (roomOf kind.Place) at p
+Inv-loop c f w n at₀ p₀ at p = (p ≤ c .count .places) × Begun (λ j q. drift (itemsOf c) j (firstOf (itemsOf c .places) q)) at p
 
 abbrev μ-loop : tie.MeasureT-loop
-μ-loop c f w at₀ p₀ at p = roomOf kind.Place - p
+μ-loop c f w n at₀ p₀ at p = n - p
 
 module _ (i : tie.In-loop Inv-loop μ-loop) where
   abbrev t : tie.Start Inv-loop μ-loop
@@ -51,7 +50,7 @@ module _ (i : tie.In-loop Inv-loop μ-loop) where
   read = getD (t .args .t2 .at) p 0
 
   below : p < roomOf kind.Place
-  below = i .loop-test .taken
+  below = omega (arith, i .loop-test .taken, t .pre .0 .room kind.Place)
 
   read-is : read ≡ q
   read-is = first-at (x .places) (t .pre .1) p below
@@ -74,13 +73,14 @@ module _ (c : tie.After-stretch Inv-loop μ-loop) where
   last-has : Has (sumAt (read i + c .stretch .result - 1)) (λ j. ways (x i) j (q i + stretch (loopOf (x i .places) (p i)) - 1))
   last-has =
       has _
-      (values-at (ways (x i)) (t i .pre .2) (read i + c .stretch .result - 1) (record { at = [] }) (omega (arith, ends))
+      (values-at (roomOf kind.Place) (ways (x i)) (t i .pre .2) (read i + c .stretch .result - 1) (record { at = [] }) (omega (arith, ends))
       ∙ ap (λ n. vecOf (λ j. ways (x i) j (n - 1))) (end-is (t i .pre .0) (p i) (below i) (read-is i) (c .stretch .ensures)))
 
   first-has : Has (sumAt (read i)) (λ j. ways (x i) j (q i))
   first-has =
       has _
-      (values-at (ways (x i)) (t i .pre .2) (read i) (record { at = [] }) (read-below i) ∙ ap (λ n. vecOf (λ j. ways (x i) j n)) (read-is i))
+      (values-at (roomOf kind.Place) (ways (x i)) (t i .pre .2) (read i) (record { at = [] }) (read-below i)
+      ∙ ap (λ n. vecOf (λ j. ways (x i) j n)) (read-is i))
 
 module _ (c : tie.After-back-slot Inv-loop μ-loop) where
   abbrev b : tie.After-stretch Inv-loop μ-loop
@@ -116,10 +116,10 @@ zero-requires : tie.Need-zero-requires Inv-loop μ-loop
 zero-requires c κs = search needs
 
 loop-holds : tie.Need-loop-holds Inv-loop μ-loop
-loop-holds c = (omega arith, fill-none _ (roomOf kind.Place) _ refl)
+loop-holds c = (omega arith, begin (c .zero .ensures))
 
 element-copy-out-q : tie.Need-element-copy-out-q Inv-loop μ-loop
-element-copy-out-q c = search needs
+element-copy-out-q c = below c
 
 cast-q : tie.Need-cast-q Inv-loop μ-loop
 cast-q c = search needs
@@ -178,26 +178,28 @@ plus-requires c κs =
     (λ j. omega (arith, stretch-size (facts _ (t k .pre .0)) j (q k) (omega (arith, read-below k, read-is k))))
 
 mul-at : tie.Need-mul-at Inv-loop μ-loop
-mul-at c = search needs
+mul-at c = record { fits = omega (arith, below (i (b (c .before)))) }
 
 array-set-from-at : tie.Need-array-set-from-at Inv-loop μ-loop
-array-set-from-at c = search needs
+array-set-from-at c = below (i (b (c .before)))
 
 add-p : tie.Need-add-p Inv-loop μ-loop
-add-p c = search needs
+add-p c = record { fits = omega (arith, below (i (b (c .before)))) }
 
 loop-less : tie.Need-loop-less Inv-loop μ-loop
 loop-less c = search needs
 
 loop-again : tie.Need-loop-again Inv-loop μ-loop
 loop-again c =
-    let m = i (b (c .before)) .before .loop in
-    (omega arith, fill-next _ (roomOf kind.Place) (m .at) (m .p) (filled c) (omega arith) (m .inv .1))
+    let k = i (b (c .before)) in
+    (omega arith, go-on (k .before .loop .inv .1) (filled c) (below k))
 
 returns : tie.Need-returns Inv-loop μ-loop
 returns c =
-    let m = c .before .loop in
-    ap (λ (a : List Counters). record { at = a }) (fill-all _ (roomOf kind.Place) (m .at) (m .p) (omega arith) (m .inv .1))
+    let l = c .before in
+    let s = l .before .before in
+    let e : l .loop .p ≡ s .args .t1 .count .places = omega arith in
+    finish (l .loop .inv .1) (e ∙ sym (counted (s .args .t1) (s .pre .0) kind.Place))
 
 pub drifts-spec : {M : Type 1} → statement M
 drifts-spec =

@@ -13,11 +13,14 @@ use Rattle.meaning.specs.Judged.{zeros, testsOf}
 use Rattle.meaning.specs.Given.{facts}
 use Rattle.verdict.specs.Rounds.{roundsBy}
 use Rattle.verdict.specs.Verdict.{firstNot, passes, numberOf}
+use Rattle.forward.specs.declared.Tables.{Tables}
+use Rattle.forward.specs.Tables.{firstsOf}
+use Rattle.marks.specs.Known.{first-within, base-is, drift-is}
 use Rattle.judge.specs.declared.Search.the-variants.{At}
 use Rattle.judge.specs.Told.{toldTest, isNamed}
 use Rattle.judge.specs.Laws.{fails, found-here, found-later, found-end, each}
 use Rattle.judge.specs.Ways.{wayNo, way-move, move-below}
-use Rattle.judge.specs.Tests.{guardNo, isTest, testNo, testsFrom, tests-start, guard-read, guard-below, guard-at, first-within, base-at, drift-at, rounds-at}
+use Rattle.judge.specs.Tests.{guardNo, isTest, testNo, testsFrom, tests-start, guard-read, guard-below, guard-at, rounds-at}
 use Rattle.judge.specs.Sums.{test-fits, test-is}
 use Rattle.judge.proofs.guard_fails.Statement.{statement}
 use Rattle.judge.proofs.guard_fails.Tie as tie
@@ -31,9 +34,16 @@ abbrev μ-loop : tie.MeasureT-loop
 abbrev start : tie.At-loop Inv-loop μ-loop → tie.Start Inv-loop μ-loop
 start l = l .before .before .before .before
 
+-- the table of the first places
+firsts-are : (c : tie.Start Inv-loop μ-loop) → c .args .t .firsts ≡ firstsOf (itemsOf (c .args .t1) .places)
+firsts-are c = ap (λ (t : Tables). t .firsts) (c .pre .1)
+
 -- there is a test k, on a way into a place
 turn : (c : tie.In-loop Inv-loop μ-loop) → c .before .loop .k < 4 * length (itemsOf (start (c .before) .args .t1) .places)
 turn c = omega (arith, c .loop-test .taken, counted (start (c .before) .args .t1) (start (c .before) .pre .0) kind.Place)
+
+held : (c : tie.In-loop Inv-loop μ-loop) → c .before .loop .k / 2 / 2 < length (itemsOf (start (c .before) .args .t1) .places)
+held c = omega (arith, turn c)
 
 inside : (c : tie.In-loop Inv-loop μ-loop) → c .before .loop .k / 2 / 2 < roomOf kind.Place
 inside c = omega (arith, start (c .before) .pre .0 .room kind.Place)
@@ -74,14 +84,16 @@ first-room : (c : tie.After-f Inv-loop μ-loop) →
     getD (start l .args .t .firsts .at) (l .loop .k / 2 / 2) 0 < roomOf kind.Place
 first-room c =
     let l = c .before .before .before .before .before .before .before .before .before .before in
-    first-within (start l .pre .0) (start l .pre .1) (l .loop .k / 2 / 2) (inside (c .before .before .before .before .before .before .before .before .before))
+    first-within (start l .pre .0) (firsts-are (start l)) (l .loop .k / 2 / 2) (inside (c .before .before .before .before .before .before .before .before .before))
 
 rounds-are : (c : tie.After-rounds-by Inv-loop μ-loop) →
     let l = c .before .before .before .before .before .before .before .before .before .before .before .before .before .before in
     c .rounds-by .result ≡ roundsBy (itemsOf (start l .args .t1) .places) (wayNo (l .loop .k / 2))
 rounds-are c =
-    let l = c .before .before .before .before .before .before .before .before .before .before .before .before .before .before in
-    c .rounds-by .ensures ∙ rounds-at (start l .pre .0) (start l .pre .1) (l .loop .k / 2 / 2) (inside (c .before .before .before .before .before .before .before .before .before .before .before .before .before)) (wayNo (l .loop .k / 2) .back)
+    let i = c .before .before .before .before .before .before .before .before .before .before .before .before .before in
+    let l = i .before in
+    let w = wayNo (l .loop .k / 2) in
+    c .rounds-by .ensures ∙ rounds-at (start l .pre .0) (firsts-are (start l)) (w .place) (inside i) (w .back)
 
 loop-holds : tie.Need-loop-holds Inv-loop μ-loop
 loop-holds c = tests-start (itemsOf (c .before .before .before .args .t1))
@@ -161,9 +173,9 @@ misses-requires c κs =
     let y = start l in
     let k = l .loop .k in
     let i = c .before .before .before .before .before .before .before .before .before .before .before .before .before in
-    let h = inside i in
     test-fits (facts (y .args .t1) (y .pre .0)) (testNo (itemsOf (y .args .t1)) k)
-    (guard-at (y .pre .0) k (i .loop-test .taken) _ (guard-no (c .before .before .before .before .before .before))) (base-at (y .pre .0) (y .pre .1) (k / 2 / 2) h _) (drift-at (y .pre .0) (y .pre .1) (k / 2 / 2) h _) (rounds-are c) h
+    (guard-at (y .pre .0) k (i .loop-test .taken) _ (guard-no (c .before .before .before .before .before .before)))
+    (base-is (y .pre .0) (y .pre .1) (k / 2 / 2) (held i) _) (drift-is (y .pre .0) (y .pre .1) (k / 2 / 2) (held i) _) (rounds-are c) (inside i)
 
 -- the test made is test k
 test : (c : tie.After-misses Inv-loop μ-loop) →
@@ -175,11 +187,11 @@ test c =
     let y = start l in
     let k = l .loop .k in
     let i = c .before .before .before .before .before .before .before .before .before .before .before .before .before .before in
-    let h = inside i in
     rw (c .misses .ensures)
     (ap₂ (λ q t. isNamed q && not t) (guard-is (c .before .before .before .before .before .before .before .before))
     (test-is (facts (y .args .t1) (y .pre .0)) (testNo (itemsOf (y .args .t1)) k)
-    (guard-at (y .pre .0) k (i .loop-test .taken) _ (guard-no (c .before .before .before .before .before .before .before))) (base-at (y .pre .0) (y .pre .1) (k / 2 / 2) h _) (drift-at (y .pre .0) (y .pre .1) (k / 2 / 2) h _) (rounds-are (c .before))))
+    (guard-at (y .pre .0) k (i .loop-test .taken) _ (guard-no (c .before .before .before .before .before .before .before)))
+    (base-is (y .pre .0) (y .pre .1) (k / 2 / 2) (held i) _) (drift-is (y .pre .0) (y .pre .1) (k / 2 / 2) (held i) _) (rounds-are (c .before))))
 
 returns : tie.Need-returns Inv-loop μ-loop
 returns c =

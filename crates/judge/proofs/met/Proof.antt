@@ -14,7 +14,7 @@ use Rattle.integer.specs.Tests.{cond-by}
 use Rattle.meaning.specs.Run.{sum}
 use Rattle.lines.specs.Last.{lastOf}
 use Rattle.counters.specs.Vectors.{at}
-use Rattle.throughs.specs.Sums.{sum-size}
+use Rattle.marks.specs.Sums.{sum-size}
 use Rattle.judge.specs.Sums.{isMet}
 use Rattle.judge.proofs.met.Statement.{statement}
 use Rattle.judge.proofs.met.Tie as tie

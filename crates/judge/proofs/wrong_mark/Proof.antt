@@ -1,66 +1,56 @@
 -- The loop goes through the sentences. Assumes nothing.
 use borrow.Author.Needs.{needs}
-use mathlib.Core.Path.{_≡_, _∙_, sym, ap, subst}
-use Prim.Native.Nat.{_-_, _<_}
+use mathlib.Core.Path.{_≡_, _∙_, sym}
+use Prim.Native.Nat.{_-_}
 use native.Mathlib.Omega.{arith}
 use lib.ListN.{length}
 use Rattle.kinds.specs.declared.Kind.the-variants as kind
-use Rattle.plan.specs.Cases.{itemsOf}
+use Rattle.plan.specs.Cases.{Items, itemsOf}
 use Rattle.rules.specs.Held.{counted}
 use Rattle.meaning.specs.Judged.{zeros, marksOf}
 use Rattle.verdict.specs.Verdict.{firstNot, right}
-use Rattle.throughs.specs.Throughs.{throughsOf}
-use Rattle.throughs.specs.Ranged.{Ranged, ranged}
 use Rattle.judge.specs.Told.{toldMark}
-use Rattle.judge.specs.Marks.{form-at, rowsFrom, rows-start, rows-here, rows-later, rows-end}
+use Rattle.judge.specs.Marks.{rowsFrom, rows-start, rows-here, rows-later, rows-end}
 use Rattle.judge.proofs.wrong_mark.Statement.{statement}
 use Rattle.judge.proofs.wrong_mark.Tie as tie
 
 abbrev Inv-loop : tie.InvT-loop
-Inv-loop t c n i₀ i = toldMark (firstNot (right (itemsOf c) zeros) (marksOf (itemsOf c))) ≡ rowsFrom (itemsOf c) i
+Inv-loop c t n places i₀ i = toldMark (firstNot (right (itemsOf c) zeros) (marksOf (itemsOf c))) ≡ rowsFrom (itemsOf c) i
 
 abbrev μ-loop : tie.MeasureT-loop
-μ-loop t c n i₀ i = n - i
+μ-loop c t n places i₀ i = n - i
+
+-- there are as many sentences and places as are counted
+module _ (c : tie.Start Inv-loop μ-loop) where
+  abbrev x : Items
+  x = itemsOf (c .args .c)
+
+  sentences : length (x .sentences) ≡ c .args .c .count .sentences
+  sentences = counted (c .args .c) (c .pre .0) kind.Sentence
+
+  places : length (x .places) ≡ c .args .c .count .places
+  places = counted (c .args .c) (c .pre .0) kind.Place
 
 loop-holds : tie.Need-loop-holds Inv-loop μ-loop
-loop-holds c = rows-start (itemsOf (c .args .t1))
-
-mul-sentence : tie.Need-mul-sentence Inv-loop μ-loop
-mul-sentence c = omega (arith, c .before .before .pre .0 .room kind.Sentence)
-
-element-copy-out-sentence : tie.Need-element-copy-out-sentence Inv-loop μ-loop
-element-copy-out-sentence c = omega (arith, c .before .before .pre .0 .room kind.Sentence)
+loop-holds c = rows-start (x c)
 
 cast-wrong-place : tie.Need-cast-wrong-place Inv-loop μ-loop
-cast-wrong-place c = omega (arith, c .before .before .before .pre .0 .room kind.Sentence)
-
-form-over-requires : tie.Need-form-over-requires Inv-loop μ-loop
-form-over-requires c κs =
-    let t = c .before .before in
-    let p = t .before .pre in
-    (p .0, (p .1, subst Ranged (sym (form-at (p .0) (t .loop .i))) (ranged (p .0) (t .loop .i))))
+cast-wrong-place c = omega (arith, c .before .before .pre .0 .room kind.Sentence)
 
 wrong-place-requires : tie.Need-wrong-place-requires Inv-loop μ-loop
 wrong-place-requires c κs =
-    let t = c .before .before .before in
-    let s = t .before .pre .0 in
-    (s, c .form-over .ensures ∙ ap (throughsOf (itemsOf (t .before .args .t1))) (form-at s (t .loop .i)))
+    let p = c .before .before .pre in
+    (p .0, (p .1, omega (arith, p .0 .room kind.Sentence)))
 
-is-found-requires : tie.Need-is-found-requires Inv-loop μ-loop
-is-found-requires c κs = search needs
-
-module _ (c : tie.After-is-found Inv-loop μ-loop) where
-  abbrev l : tie.At-loop Inv-loop μ-loop
-  l = c .before .before .before .before .before
-
-  inside : l .loop .i < length (itemsOf (l .before .args .t1) .sentences)
-  inside = omega (arith, counted (l .before .args .t1) (l .before .pre .0) kind.Sentence)
+cast-t10 : tie.Need-cast-t10 Inv-loop μ-loop
+cast-t10 c = omega (arith, c .before .before .before .before .pre .0 .room kind.Sentence)
 
 returns : tie.Need-returns Inv-loop μ-loop
 returns c =
-    let d = c .before in
-    let t = l d in
-    sym (t .loop .inv ∙ rows-here (itemsOf (t .before .args .t1)) (t .loop .i) (inside d) (d .before .wrong-place .ensures) (sym (d .is-found .ensures) ∙ c .if1 .taken))
+    let w = c .before in
+    let l = w .before .before in
+    let t = l .before in
+    sym (l .loop .inv ∙ rows-here (x t) (l .loop .i) (omega (arith, sentences t)) (w .wrong-place .ensures) (omega (arith, places t)))
 
 add-i : tie.Need-add-i Inv-loop μ-loop
 add-i c = search needs
@@ -70,14 +60,15 @@ loop-less c = search needs
 
 loop-again : tie.Need-loop-again Inv-loop μ-loop
 loop-again c =
-    let d = c .before in
-    let t = l d in
-    t .loop .inv ∙ rows-later (itemsOf (t .before .args .t1)) (t .loop .i) (inside d) (d .before .wrong-place .ensures) (sym (d .is-found .ensures) ∙ c .if1 .left)
+    let w = c .before in
+    let l = w .before .before in
+    let t = l .before in
+    l .loop .inv ∙ rows-later (x t) (l .loop .i) (omega (arith, sentences t)) (w .wrong-place .ensures) (omega (arith, places t))
 
 returns-2 : tie.Need-returns-2 Inv-loop μ-loop
 returns-2 c =
-    let t = c .before in
-    sym (t .loop .inv ∙ rows-end (itemsOf (t .before .args .t1)) (t .loop .i) (omega (arith, counted (t .before .args .t1) (t .before .pre .0) kind.Sentence)))
+    let t = c .before .before in
+    sym (c .before .loop .inv ∙ rows-end (x t) (c .before .loop .i) (omega (arith, sentences t)))
 
 pub wrong-mark-spec : {M : Type 1} → statement M
 wrong-mark-spec =
@@ -86,12 +77,9 @@ wrong-mark-spec =
     Inv-loop
     μ-loop
     loop-holds
-    mul-sentence
-    element-copy-out-sentence
     cast-wrong-place
-    form-over-requires
     wrong-place-requires
-    is-found-requires
+    cast-t10
     returns
     add-i
     loop-less

@@ -1,0 +1,27 @@
+-- Within the room it is the array's element, and past it there is no guard. Assumes nothing.
+use native.Mathlib.Omega.{arith}
+use Rattle.integer.specs.Lists.{past-end}
+use Rattle.kinds.specs.declared.Kind.the-variants as kind
+use Rattle.plan.specs.Cases.{itemsOf, noItem}
+use Rattle.rules.specs.Held.{counted}
+use Rattle.forward.specs.Reads.{at-guards}
+use borrow.Author.Needs.{needs}
+use Rattle.marks.proofs.guard_at.Statement.{statement}
+use Rattle.marks.proofs.guard_at.Tie as tie
+
+mul-result : tie.Need-mul-result
+mul-result c = search needs
+
+element-copy-out-result : tie.Need-element-copy-out-result
+element-copy-out-result c = search needs
+
+returns : tie.Need-returns
+returns c = at-guards (c .before .before .pre) (c .before .before .args .g) _ (omega arith)
+
+returns-2 : tie.Need-returns-2
+returns-2 c =
+    let t = c .before in
+    past-end (noItem kind.Guard) (itemsOf (t .args .t1) .guards) (t .args .g) (omega (arith, counted (t .args .t1) (t .pre) kind.Guard, t .pre .room kind.Guard))
+
+pub guard-at-spec : {M : Type 1} → statement M
+guard-at-spec = tie.close (tie.spec mul-result element-copy-out-result returns returns-2)

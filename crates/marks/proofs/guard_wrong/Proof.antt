@@ -1,0 +1,192 @@
+-- The loop goes through the places. Assumes nothing.
+use mathlib.Core.Path.{_≡_, sym, _∙_, ap}
+use mathlib.Core.Bool.{Bool}
+use mathlib.Core.List.{[]}
+use Prim.Native.Nat.{ℕ, _-_, _<_}
+use native.Mathlib.Omega.{arith}
+use lib.ListN.{length, getD}
+use borrow.Author.Needs.{needs}
+use Rattle.kinds.specs.declared.Kind.the-variants as kind
+use Rattle.plan.specs.Cases.{Items, itemsOf, roomOf}
+use Rattle.rules.specs.Held.{counted}
+use Rattle.meaning.specs.Run.{guardAt}
+use Rattle.meaning.specs.Judged.{zeros}
+use Rattle.meaning.specs.Given.{facts}
+use Rattle.verdict.specs.declared.Throughout.{Throughout}
+use Rattle.verdict.specs.Verdict.{guardThrough}
+use Rattle.forward.specs.declared.Tables.{Tables}
+use Rattle.marks.specs.Wrong.{isRight, wrongIn}
+use Rattle.marks.specs.Search.{offFrom, off-start, off-here, off-later, off-end}
+use Rattle.marks.specs.Known.{first-within, rounds-are, base-is, drift-is, right-is}
+use Rattle.marks.specs.Sums.{Known, guard-fits, guard-is}
+use Rattle.marks.proofs.guard_wrong.Statement.{statement}
+use Rattle.marks.proofs.guard_wrong.Tie as tie
+
+-- what guard g is over the rounds of each place
+abbrev guardOf : Items → ℕ → ℕ → Throughout
+guardOf x g = guardThrough x zeros (guardAt (x .guards) g)
+
+abbrev Inv-loop : tie.InvT-loop
+Inv-loop i g c guard firsts drifts bases n p₀ p =
+    let x = itemsOf c in
+    wrongIn x i (guardOf x g) ≡ offFrom (isRight x i (guardOf x g)) (length (x .places)) p
+
+abbrev μ-loop : tie.MeasureT-loop
+μ-loop i g c guard firsts drifts bases n p₀ p = n - p
+
+-- the items, the number of places and the test
+module _ (c : tie.Start Inv-loop μ-loop) where
+  abbrev x : Items
+  x = itemsOf (c .args .t1)
+
+  abbrev n : ℕ
+  n = length (x .places)
+
+  abbrev ok : ℕ → Bool
+  ok = isRight x (c .args .i) (guardOf x (c .args .g))
+
+  held : n ≡ c .args .t1 .count .places
+  held = counted (c .args .t1) (c .pre .0) kind.Place
+
+-- place p, which is held
+module _ (c : tie.In-loop Inv-loop μ-loop) where
+  abbrev t : tie.Start Inv-loop μ-loop
+  t = c .before .before .before .before .before .before
+
+  abbrev p : ℕ
+  p = c .before .loop .p
+
+  inside : p < n t
+  inside = omega (arith, held t)
+
+  room : p < roomOf kind.Place
+  room = omega (arith, t .pre .0 .room kind.Place)
+
+  within : getD (t .args .t .firsts .at) p 0 < roomOf kind.Place
+  within = first-within (t .pre .0) (ap (λ (t : Tables). t .firsts) (t .pre .1)) p room
+
+guard-at-requires : tie.Need-guard-at-requires Inv-loop μ-loop
+guard-at-requires c κs = search needs
+
+loop-holds : tie.Need-loop-holds Inv-loop μ-loop
+loop-holds c = off-start (ok (c .before .before .before .before)) (n (c .before .before .before .before))
+
+element-copy-out-q : tie.Need-element-copy-out-q Inv-loop μ-loop
+element-copy-out-q c = room c
+
+cast-q : tie.Need-cast-q Inv-loop μ-loop
+cast-q c = omega (arith, within (c .before))
+
+mul-first : tie.Need-mul-first Inv-loop μ-loop
+mul-first c = omega (arith, within (c .before))
+
+element-copy-out-first : tie.Need-element-copy-out-first Inv-loop μ-loop
+element-copy-out-first c = within (c .before)
+
+mul-base : tie.Need-mul-base Inv-loop μ-loop
+mul-base c = omega (arith, room (c .before .before))
+
+element-copy-out-base : tie.Need-element-copy-out-base Inv-loop μ-loop
+element-copy-out-base c = room (c .before .before)
+
+mul-drift : tie.Need-mul-drift Inv-loop μ-loop
+mul-drift c = omega (arith, room (c .before .before .before))
+
+element-copy-out-drift : tie.Need-element-copy-out-drift Inv-loop μ-loop
+element-copy-out-drift c = room (c .before .before .before)
+
+mul-place : tie.Need-mul-place Inv-loop μ-loop
+mul-place c = omega (arith, room (c .before .before .before .before))
+
+element-copy-out-place : tie.Need-element-copy-out-place Inv-loop μ-loop
+element-copy-out-place c = room (c .before .before .before .before)
+
+rounds-of-requires : tie.Need-rounds-of-requires Inv-loop μ-loop
+rounds-of-requires c κs = search needs
+
+-- what is read there
+module _ (c : tie.After-rounds-of Inv-loop μ-loop) where
+  abbrev l : tie.In-loop Inv-loop μ-loop
+  l = c .before .before .before .before .before .before
+
+  known :
+      Known (x (t l)) (t l .args .g) (p l) (l .before .before .before .before .before .guard-at .result)
+      (getD (t l .args .t .bases .at) (p l) (record { at = [] })) (getD (t l .args .t .drifts .at) (p l) (record { at = [] })) (c .rounds-of .result)
+  known =
+      let s = t l .pre .0 in
+      let e = t l .pre .1 in
+      record {
+        guard = l .before .before .before .before .before .guard-at .ensures;
+        base = base-is s e (p l) (inside l) _;
+        drift = drift-is s e (p l) (inside l) _;
+        rounds = c .rounds-of .ensures ∙ rounds-are s (ap (λ (t : Tables). t .firsts) e) (p l) (room l);
+      }
+
+guard-through-requires : tie.Need-guard-through-requires Inv-loop μ-loop
+guard-through-requires c κs = guard-fits (facts (t (l c) .args .t1) (t (l c) .pre .0)) (known c) (room (l c))
+
+bit-requires : tie.Need-bit-requires Inv-loop μ-loop
+bit-requires c κs = search needs
+
+is-right-requires : tie.Need-is-right-requires Inv-loop μ-loop
+is-right-requires c κs = search needs
+
+-- the test made is that of place p
+module _ (c : tie.After-is-right Inv-loop μ-loop) where
+  abbrev i : tie.In-loop Inv-loop μ-loop
+  i = l (c .before .before .before)
+
+  is : c .before .before .guard-through .result ≡ guardOf (x (t i)) (t i .args .g) (p i)
+  is = c .before .before .guard-through .ensures ∙ guard-is (facts (t i .args .t1) (t i .pre .0)) (known (c .before .before .before))
+
+  test : c .is-right .result ≡ ok (t i) (p i)
+  test = c .is-right .ensures ∙ right-is (t i .pre .0) (p i) (t i .args .i) (guardOf (x (t i)) (t i .args .g)) (c .before .bit .ensures) is
+
+add-p : tie.Need-add-p Inv-loop μ-loop
+add-p c = omega (arith, room (i (c .before)))
+
+loop-less : tie.Need-loop-less Inv-loop μ-loop
+loop-less c = omega arith
+
+loop-again : tie.Need-loop-again Inv-loop μ-loop
+loop-again c =
+    let m = i (c .before) in
+    m .before .loop .inv ∙ off-later (ok (t m)) (n (t m)) (p m) (inside m) (sym (test (c .before)) ∙ c .if1 .taken)
+
+returns : tie.Need-returns Inv-loop μ-loop
+returns c =
+    let m = i (c .before) in
+    sym (m .before .loop .inv ∙ off-here (ok (t m)) (n (t m)) (p m) (inside m) (sym (test (c .before)) ∙ c .if1 .left))
+
+returns-2 : tie.Need-returns-2 Inv-loop μ-loop
+returns-2 c =
+    let s = c .before .before .before .before .before .before in
+    sym (c .before .loop .inv ∙ off-end (ok s) (n s) (c .before .loop .p) (omega (arith, held s)))
+
+pub guard-wrong-spec : {M : Type 1} → statement M
+guard-wrong-spec =
+    tie.close
+    (tie.spec
+    Inv-loop
+    μ-loop
+    guard-at-requires
+    loop-holds
+    element-copy-out-q
+    cast-q
+    mul-first
+    element-copy-out-first
+    mul-base
+    element-copy-out-base
+    mul-drift
+    element-copy-out-drift
+    mul-place
+    element-copy-out-place
+    rounds-of-requires
+    guard-through-requires
+    bit-requires
+    is-right-requires
+    add-p
+    loop-less
+    loop-again
+    returns
+    returns-2)

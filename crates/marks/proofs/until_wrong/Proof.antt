@@ -1,0 +1,329 @@
+-- From the last place that is held to the first: whatever labels the steps are of, first and last show their best sums at place p, and the first place from
+-- p on that is marked wrongly is known. (The terms of the until are no longer at hand in the loop, so its invariant is about all such labels.) Assumes nothing.
+use mathlib.Core.Path.{_≡_, sym, _∙_, ap, ap₂}
+use mathlib.Core.Bool.{Bool, cond}
+use mathlib.Core.Logic.{⊎-elim}
+use Prim.Native.Nat.{ℕ, _-_, _≤_, _<_}
+use native.Mathlib.Omega.{arith}
+use lib.IntN.{ℤ}
+use lib.ListN.{length, getD}
+use lib.Signed.{leZ}
+use mir.Syntax.{w32, w64}
+use mir.Val.{SFits, toZ, ofZ}
+use mir.Facts.{toZ-ofZ, sfits-widen}
+use Rattle.kinds.specs.declared.Kind.the-variants as kind
+use Rattle.items.specs.declared.LoopMark.{LoopMark}
+use Rattle.items.specs.declared.Place.{Place}
+use Rattle.plan.specs.Cases.{Items, itemsOf, roomOf, noItem}
+use Rattle.rules.specs.Held.{counted}
+use Rattle.meaning.specs.declared.Label.{Label}
+use Rattle.meaning.specs.Truth.{bit}
+use Rattle.meaning.specs.Given.{facts}
+use Rattle.meaning.specs.Judged.{marked}
+use Rattle.meaning.specs.Below.{labelOf}
+use Rattle.verdict.specs.declared.Throughout.{Throughout}
+use Rattle.verdict.specs.Rounds.{firstOf, loopOf, agree}
+use Rattle.verdict.specs.Verdict.{isAlways, isNever}
+use Rattle.best.specs.declared.Ends.{Ends}
+use Rattle.best.specs.Numbers.{nth, stepBy, aroundBy}
+use Rattle.best.specs.Bounds.{Light}
+use Rattle.best.specs.Shows.{StepsAre}
+use Rattle.forward.specs.Entries.{first-at}
+use Rattle.forward.specs.Reads.{at-places}
+use Rattle.forward.specs.Stretches.{first-below, mark-is, end-in}
+use borrow.Author.Needs.{needs, sfits-of}
+use borrow.Author.Tests.{not-true, not-false}
+use Rattle.marks.specs.Wrong.{isRight, untilsOf}
+use Rattle.marks.specs.Bits.{fits-size}
+use Rattle.marks.specs.Ranged.{mild-light}
+use Rattle.marks.specs.Steps.{steps-are}
+use Rattle.marks.specs.Search.{offFrom, off-start, off-end, down-off, down-on}
+use Rattle.marks.specs.Untils.{Shown, After, both-read, Turn, turn-read, turn-fits, turn-out, turn-on, turn-small, turn-step, shown-past, until-is}
+use Rattle.marks.proofs.until_wrong.Statement.{statement}
+use Rattle.marks.proofs.until_wrong.Tie as tie
+
+abbrev Inv-loop : tie.InvT-loop
+Inv-loop i a b bound c firsts steps z n wrong₀ first₀ last₀ p₀ wrong first last p =
+    (p ≤ length (itemsOf c .places))
+    × ((l : ℕ → Label) → Light l → StepsAre l (nth (steps .stops)) (nth (steps .goes)) →
+    (Shown (itemsOf c) l p (toZ w64 first) (toZ w64 last))
+    × (wrong ≡ offFrom (isRight (itemsOf c) i (untilsOf (itemsOf c) l (toZ w32 bound))) (length (itemsOf c .places)) p))
+
+abbrev μ-loop : tie.MeasureT-loop
+μ-loop i a b bound c firsts steps z n wrong₀ first₀ last₀ p₀ wrong first last p = p
+
+module _ (c : tie.After-steps-of Inv-loop μ-loop) where
+  abbrev t : tie.Start Inv-loop μ-loop
+  t = c .before
+
+  abbrev x : Items
+  x = itemsOf (t .args .t1)
+
+  -- the steps of the places
+  abbrev s : ℕ → ℤ
+  s = nth (c .steps-of .result .stops)
+
+  abbrev g : ℕ → ℤ
+  g = nth (c .steps-of .result .goes)
+
+  -- their labels
+  abbrev labels : ℕ → Label
+  labels = labelOf (marked x) (t .args .a) (t .args .b) (t .args .t) (t .args .u)
+
+  light : Light labels
+  light = mild-light (marked x) (t .args .a) (t .args .b) (t .args .t) (t .args .u) (t .pre .1 .1 .0) (t .pre .1 .1 .1)
+
+  are : StepsAre labels s g
+  are = steps-are labels (c .steps-of .ensures)
+
+  count-is : length (x .places) ≡ t .args .t1 .count .places
+  count-is = counted (t .args .t1) (t .pre .0) kind.Place
+
+  few : length (x .places) ≤ roomOf kind.Place
+  few = omega (arith, count-is, t .pre .0 .room kind.Place)
+
+module _ (c : tie.In-loop Inv-loop μ-loop) where
+  -- what is known before the loop
+  abbrev b : tie.After-steps-of Inv-loop μ-loop
+  b = c .before .before
+
+  -- the place of this turn is the one before i
+  abbrev i : ℕ
+  i = c .before .loop .p
+
+  abbrev p : ℕ
+  p = i - 1
+
+  -- the first place of its stretch, and what stands there
+  abbrev q : ℕ
+  q = getD (t b .args .t2 .at) p 0
+
+  abbrev mark : LoopMark
+  mark = getD (t b .args .t1 .places) q (noItem kind.Place) .mark
+
+  below : p < roomOf kind.Place
+  below = omega (arith, few b)
+
+  first-is : q ≡ firstOf (x b .places) p
+  first-is = first-at (x b .places) (t b .pre .1 .0) p below
+
+  first-in : q < roomOf kind.Place
+  first-in = first-below (t b .pre .0) p below first-is
+
+  mark-here : mark ≡ loopOf (x b .places) p
+  mark-here = mark-is (t b .pre .0) p below first-is
+
+  -- what the turn stands on, where the steps are of the labels l
+  abbrev TurnOf : (ℕ → Label) → Type 0
+  TurnOf l = Turn (x b) l (s b) (g b) i
+
+  turn : (l : ℕ → Label) → Light l → StepsAre l (s b) (g b) → TurnOf l
+  turn l h k = record { facts = facts (t b .args .t1) (t b .pre .0); light = h; are = k; some = c .loop-test .taken; held = c .before .loop .inv .0 }
+
+  own : TurnOf (labels b)
+  own = turn (labels b) (light b) (are b)
+
+  shown : {l : ℕ → Label} → TurnOf l → Shown (x b) l i (toZ w64 (c .before .loop .first)) (toZ w64 (c .before .loop .last))
+  shown {l} o = c .before .loop .inv .1 l (o .light) (o .are) .0
+
+steps-of-requires : tie.Need-steps-of-requires Inv-loop μ-loop
+steps-of-requires c κs = search needs
+
+cast-z : tie.Need-cast-z Inv-loop μ-loop
+cast-z c = let f = c .before .fits .bound in rw (toZ-ofZ f) (sfits-widen tt f)
+
+loop-holds : tie.Need-loop-holds Inv-loop μ-loop
+loop-holds c =
+    let e = count-is c in
+    (omega (arith, e), λ l light are. (shown-past (x c) l _ (omega (arith, e)), sym (off-end _ _ _ (omega (arith, e)))))
+
+sub-p : tie.Need-sub-p Inv-loop μ-loop
+sub-p c = omega arith
+
+element-copy-out-q : tie.Need-element-copy-out-q Inv-loop μ-loop
+element-copy-out-q c = below c
+
+cast-q : tie.Need-cast-q Inv-loop μ-loop
+cast-q c = omega (arith, first-in (c .before))
+
+mul-begin : tie.Need-mul-begin Inv-loop μ-loop
+mul-begin c = omega (arith, first-in (c .before))
+
+element-copy-out-begin : tie.Need-element-copy-out-begin Inv-loop μ-loop
+element-copy-out-begin c = first-in (c .before)
+
+stretch-requires : tie.Need-stretch-requires Inv-loop μ-loop
+stretch-requires c κs = search needs
+
+add-if1 : tie.Need-add-if1 Inv-loop μ-loop
+add-if1 c =
+    let k = c .before .before .before in
+    omega (arith, end-in (t (b k) .pre .0) (p k) (below k) (first-is k) (c .stretch .ensures))
+
+add-if1-2 : tie.Need-add-if1-2 Inv-loop μ-loop
+add-if1-2 c = omega (arith, below (c .before .before .before))
+
+around-requires : tie.Need-around-requires Inv-loop μ-loop
+around-requires c κs =
+    let k = c .before .before .before .before .before .before .before in
+    turn-fits (own k) (shown k (own k)) (first-is k) (mark-here k)
+
+-- after the test for the end of a stretch
+module _ (c : tie.Joined1 Inv-loop μ-loop) where
+  abbrev k : tie.In-loop Inv-loop μ-loop
+  k = c .before .before .before .before
+
+  after : {l : ℕ → Label} → TurnOf k l → After (x (b k)) l (i k) (toZ w64 (c .if1 .first)) (toZ w64 (c .if1 .last))
+  after o =
+      let e = c .before .stretch .ensures in
+      let z = aroundBy (s (b k)) (g (b k)) (q k) (mark k) (toZ w64 (k .before .loop .first)) in
+      ⊎-elim
+      (λ w.
+      let f : SFits w64 (w .4 .result .first) = search needs in
+      let h : SFits w64 (w .4 .result .last) = search needs in
+      both-read (ap (toZ w64) (w .7) ∙ toZ-ofZ f ∙ ap (λ (y : Ends). y .first) {y = z} (w .4 .ensures))
+      (ap (toZ w64) (w .8) ∙ toZ-ofZ h ∙ ap (λ (y : Ends). y .last) {y = z} (w .4 .ensures))
+      (turn-out o (shown k o) (first-is k) (mark-here k) (omega (arith, e, w .0 .taken))))
+      (λ w. both-read (ap (toZ w64) (w .1)) (ap (toZ w64) (w .2)) (turn-on o (shown k o) (first-is k) (mark-here k) (omega (arith, e, w .0 .left))))
+      (c .if1 .came)
+
+mul-stop : tie.Need-mul-stop Inv-loop μ-loop
+mul-stop c = omega (arith, below (k c))
+
+element-copy-out-stop : tie.Need-element-copy-out-stop Inv-loop μ-loop
+element-copy-out-stop c = below (k c)
+
+mul-go : tie.Need-mul-go Inv-loop μ-loop
+mul-go c = omega (arith, below (k (c .before)))
+
+element-copy-out-go : tie.Need-element-copy-out-go Inv-loop μ-loop
+element-copy-out-go c = below (k (c .before))
+
+step-requires : tie.Need-step-requires Inv-loop μ-loop
+step-requires c κs =
+    let j = c .before .before in
+    let o = own (k j) in
+    rw (turn-read o .1) (turn-small o (after j o) .0)
+
+step-requires-2 : tie.Need-step-requires-2 Inv-loop μ-loop
+step-requires-2 c κs =
+    let j = c .before .before .before in
+    let o = own (k j) in
+    rw (turn-read o .1) (turn-small o (after j o) .1)
+
+mul-here : tie.Need-mul-here Inv-loop μ-loop
+mul-here c = omega (arith, below (k (c .before .before .before .before)))
+
+element-copy-out-here : tie.Need-element-copy-out-here Inv-loop μ-loop
+element-copy-out-here c = below (k (c .before .before .before .before))
+
+agree-requires : tie.Need-agree-requires Inv-loop μ-loop
+agree-requires c κs = search needs
+
+bit-requires : tie.Need-bit-requires Inv-loop μ-loop
+bit-requires c κs = search needs
+
+is-right-requires : tie.Need-is-right-requires Inv-loop μ-loop
+is-right-requires c κs = search needs
+
+-- at the end of the turn
+module _ (c : tie.After-is-right Inv-loop μ-loop) where
+  abbrev n : tie.After-step2 Inv-loop μ-loop
+  n = c .before .before .before .before
+
+  abbrev j : tie.Joined1 Inv-loop μ-loop
+  j = n .before .before .before .before
+
+  abbrev a : tie.After-steps-of Inv-loop μ-loop
+  a = b (k j)
+
+  next : {l : ℕ → Label} → TurnOf (k j) l → Shown (x a) l (p (k j)) (toZ w64 (ofZ w64 (n .before .step .result))) (toZ w64 (ofZ w64 (n .step2 .result)))
+  next o =
+      let e = turn-read o in
+      both-read (toZ-ofZ (sfits-of (n .before .step .ok)) ∙ n .before .step .ensures ∙ ap₂ (λ a b. stepBy a b (toZ w64 (j .if1 .first))) (e .0) (e .1))
+      (toZ-ofZ (sfits-of (n .step2 .ok)) ∙ n .step2 .ensures ∙ ap₂ (λ a b. stepBy a b (toZ w64 (j .if1 .last))) (e .0) (e .1))
+      (turn-step o (after j o))
+
+  -- the bound, as the code reads it
+  abbrev z : ℤ
+  z = toZ w32 (ofZ w32 (t a .args .bound))
+
+  right : {l : ℕ → Label} → TurnOf (k j) l → c .is-right .result ≡ isRight (x a) (t a .args .i) (untilsOf (x a) l z) (p (k j))
+  right {l} o =
+      let f : SFits w32 z = rw (toZ-ofZ (t a .fits .bound)) (t a .fits .bound) in
+      let u = toZ w64 (ofZ w64 (n .before .step .result)) in
+      let v = toZ w64 (ofZ w64 (n .step2 .result)) in
+      c .is-right .ensures
+      ∙ ap₂ (λ (m : Bool) (y : Throughout). cond m (isAlways y) (isNever y))
+      (c .before .bit .ensures ∙ ap (λ (y : Place). bit (y .marks) (t a .args .i)) (at-places (t a .pre .0) (p (k j))))
+      (c .before .before .agree .ensures ∙ ap (λ (y : ℤ). agree (leZ y u) (leZ y v)) (toZ-ofZ (cast-z a))
+      ∙ until-is (x a) l (p (k j)) (few a) (next o) z (fits-size w32 z f))
+
+loop-less : tie.Need-loop-less Inv-loop μ-loop
+loop-less c = omega (arith, k (j (c .before)) .loop-test .taken)
+
+loop-again : tie.Need-loop-again Inv-loop μ-loop
+loop-again c =
+    let r = c .before in
+    let y = k (j r) in (
+      omega (arith, y .before .loop .inv .0),
+      λ l light are.
+          let o = turn y l light are in
+          let e = down-off _ _ (i y) (o .some) (o .held) (sym (right r o) ∙ not-true (r .is-right .result) (c .if2 .taken)) in
+          (next r o, e),
+    )
+
+loop-less-2 : tie.Need-loop-less-2 Inv-loop μ-loop
+loop-less-2 c = omega (arith, k (j (c .before)) .loop-test .taken)
+
+loop-again-2 : tie.Need-loop-again-2 Inv-loop μ-loop
+loop-again-2 c =
+    let r = c .before in
+    let y = k (j r) in (
+      omega (arith, y .before .loop .inv .0),
+      λ l light are.
+          let o = turn y l light are in
+          let e = down-on _ _ (i y) (o .some) (o .held) (sym (right r o) ∙ not-false (r .is-right .result) (c .if2 .left)) in
+          (next r o, y .before .loop .inv .1 l light are .1 ∙ e),
+    )
+
+returns : tie.Need-returns Inv-loop μ-loop
+returns c =
+    let a = c .before .before in
+    let h : c .before .loop .p ≡ 0 = omega arith in
+    rw (h, toZ-ofZ (t a .fits .bound)) at (c .before .loop .inv .1 (labels a) (light a) (are a) .1) ∙ sym (off-start _ _)
+
+pub until-wrong-spec : {M : Type 1} → statement M
+until-wrong-spec =
+    tie.close
+    (tie.spec
+    Inv-loop
+    μ-loop
+    steps-of-requires
+    cast-z
+    loop-holds
+    sub-p
+    element-copy-out-q
+    cast-q
+    mul-begin
+    element-copy-out-begin
+    stretch-requires
+    add-if1
+    add-if1-2
+    around-requires
+    mul-stop
+    element-copy-out-stop
+    mul-go
+    element-copy-out-go
+    step-requires
+    step-requires-2
+    mul-here
+    element-copy-out-here
+    agree-requires
+    bit-requires
+    is-right-requires
+    loop-less
+    loop-again
+    loop-less-2
+    loop-again-2
+    returns)

@@ -1,0 +1,100 @@
+-- The coefficients of a sentence are in their range, so the labels of the places are light. Assumes nothing.
+use mathlib.Core.Path.{_≡_, sym, subst}
+use mathlib.Core.Bool.{Bool, false}
+use Prim.Native.Nat.{ℕ, _≤_}
+use native.Mathlib.Decide.{decLt}
+use native.Mathlib.Omega.{arith}
+use lib.Dec.{lit<}
+use lib.IntN.{ℤ, pos, negℤ}
+use lib.Signed.{ltZ}
+use lib.ListN.{getD, List·getD-eq-default}
+use Rattle.integer.specs.Order.{lt-false}
+use Rattle.integer.specs.Sums.{le-in}
+use Rattle.integer.specs.Sizes.{size, add-size}
+use Rattle.integer.specs.Tests.{cond-by, neither}
+use Rattle.record.specs.declared.Content.the-variants.{Number}
+use Rattle.kinds.specs.declared.Kind.the-variants as kind
+use Rattle.kinds.specs.Table.{between, ruleAt, shapeOf}
+use Rattle.faults.specs.Faults.{beyond}
+use Rattle.items.specs.declared.Term.{Term}
+use Rattle.items.specs.declared.Term.the-variants as term
+use Rattle.items.specs.declared.Form.{Form}
+use Rattle.items.specs.declared.Form.the-variants as form
+use Rattle.items.specs.declared.Sentence.{Sentence}
+use Rattle.items.specs.Items.{rowOf}
+use Rattle.plan.specs.declared.Case.{Case}
+use Rattle.plan.specs.Cases.{itemsOf, noItem}
+use Rattle.rules.specs.Sound.{Sound, Fit}
+use Rattle.rules.specs.Held.{counted}
+use Rattle.meaning.specs.Facts.{Within}
+use Rattle.meaning.specs.Counting.{worth, weightOf}
+use Rattle.meaning.specs.Below.{labelOf}
+use Rattle.counters.specs.Bounds.{within-size}
+use Rattle.best.specs.Bounds.{Light}
+
+-- a term with a coefficient from -999 to 999
+abbrev pub Mild : Term → Type 0
+Mild term.None = Unit {0}
+Mild (term.Some c s) = Within 999 c
+
+-- a sentence of this form has such terms only
+abbrev pub Ranged : Form → Type 0
+Ranged form.True = Unit {0}
+Ranged (form.Proposition v) = Unit {0}
+Ranged (form.Guard g) = Unit {0}
+Ranged (form.And a b) = Unit {0}
+Ranged (form.Not a) = Unit {0}
+Ranged (form.Next a) = Unit {0}
+Ranged (form.Until a b z t u) = Mild t × Mild u
+
+-- ---- every sentence of a case with the invariant is such
+
+-- a field with a coefficient
+abbrev InRange : ℤ → Type 0
+InRange z = beyond (between (negℤ (pos 999)) (pos 999)) (Number z) ≡ false
+
+within : (z : ℤ) → InRange z → Within 999 z
+within z e =
+    let b = neither (ltZ z (negℤ (pos 999))) (ltZ (pos 999) z) e in
+    (le-in (lt-false z (negℤ (pos 999)) (b .0)), le-in (lt-false (pos 999) z (b .1)))
+
+terms-ranged : (a b : ℕ) (z : ℤ) (t u : Term) → Fit kind.Sentence (rowOf kind.Sentence (record { form = form.Until a b z t u })) → Mild t × Mild u
+unfolding rowOf ruleAt shapeOf
+terms-ranged a b z term.None term.None f = (tt, tt)
+terms-ranged a b z term.None (term.Some d r) f = (tt, within d (f .ranged 6 (lit< tt)))
+terms-ranged a b z (term.Some c s) term.None f = (within c (f .ranged 4 (lit< tt)), tt)
+terms-ranged a b z (term.Some c s) (term.Some d r) f = (within c (f .ranged 4 (lit< tt)), within d (f .ranged 6 (lit< tt)))
+
+form-ranged : (φ : Form) → Fit kind.Sentence (rowOf kind.Sentence (record { form = φ })) → Ranged φ
+form-ranged form.True f = tt
+form-ranged (form.Proposition v) f = tt
+form-ranged (form.Guard g) f = tt
+form-ranged (form.And a b) f = tt
+form-ranged (form.Not a) f = tt
+form-ranged (form.Next a) f = tt
+form-ranged (form.Until a b z t u) f = terms-ranged a b z t u f
+
+pub ranged : {c : Case} → Sound c → (i : ℕ) → Ranged (getD (itemsOf c .sentences) i (noItem kind.Sentence) .form)
+ranged {c} s i =
+    let l = itemsOf c .sentences in
+    elim (decLt i (c .count .sentences)) [
+      | yes h ↦ form-ranged (getD l i (noItem kind.Sentence) .form) (s .fit kind.Sentence i h)
+      | no h ↦
+          subst (λ (y : Sentence). Ranged (y .form)) (sym (List·getD-eq-default l (noItem kind.Sentence) {n = i} (omega (arith, counted c s kind.Sentence)))) tt
+    ]
+
+-- ---- light labels
+
+worth-size : (mark : ℕ → Bool) (t : Term) → Mild t → size (worth mark t) ≤ 999
+worth-size mark term.None h = omega arith
+worth-size mark (term.Some c s) h = cond-by (λ z. size z ≤ 999) (mark s) (λ e. within-size 999 c h) (λ e. omega arith)
+
+pub mild-light : (mk : ℕ → ℕ → Bool) (a b : ℕ) (t u : Term) → Mild t → Mild u → Light (labelOf mk a b t u)
+unfolding weightOf
+mild-light mk a b t u h k =
+    record {
+      each =
+          λ p.
+          let m : ℕ → Bool = λ s. mk s p in
+          omega (arith, add-size (worth m t) (worth m u), worth-size m t h, worth-size m u k);
+    }

@@ -1,0 +1,105 @@
+-- The sums of a guard at a place: they fit, and are those of the definition. Assumes nothing.
+use mathlib.Core.Path.{_≡_, refl, ap₂}
+use mathlib.Core.List.{List, [], _∷_}
+use Prim.Native.Nat.{ℕ, suc, _+_, _*_, _≤_, _<_, _^_}
+use native.Mathlib.Nat.{mul-le-mul}
+use native.Mathlib.Omega.{arith}
+use lib.IntN.{ℤ, _*ℤ_}
+use Rattle.integer.specs.Sizes.{size, add-size, mul-size}
+use Rattle.kinds.specs.declared.Kind.the-variants as kind
+use Rattle.items.specs.declared.LoopMark.{LoopMark}
+use Rattle.items.specs.declared.LoopMark.the-variants as mark
+use Rattle.items.specs.declared.Guard.{Guard}
+use Rattle.plan.specs.Cases.{Items, roomOf}
+use Rattle.rules.specs.Rules.{markAt}
+use Rattle.meaning.specs.Run.{sum, guardAt}
+use Rattle.meaning.specs.Judged.{zeros}
+use Rattle.meaning.specs.Facts.{Facts}
+use Rattle.verdict.specs.declared.Rounds.{Rounds}
+use Rattle.verdict.specs.Rounds.{firstOf, loopOf, roundsOf, through}
+use Rattle.verdict.specs.Forward.{drift, repeats, base}
+use Rattle.verdict.specs.Verdict.{firstSum, roundSum, guardThrough}
+use Rattle.verdict.specs.Steps.{first-le}
+use Rattle.lines.specs.Last.{lastOf}
+use Rattle.counters.specs.declared.Counters.{Counters}
+use Rattle.counters.specs.Vectors.{at, at-is, sum-is}
+use Rattle.counters.specs.Bounds.{sizes, sizes-le}
+use Rattle.best.specs.Bounds.{mostRounds}
+use Rattle.forward.specs.Tables.{vecOf}
+use Rattle.forward.specs.Sizes.{repeats-size, drift-size, base-size}
+
+pub sum-size : (l : List ℤ) (θ : ℕ → ℤ) → size (sum l θ) ≤ sizes l θ
+unfolding sum sizes
+sum-size [] θ = omega arith
+sum-size (a ∷ l) θ =
+    omega (arith, sum-size l (λ j. θ (suc j)), add-size (a *ℤ θ 0) (sum l (λ j. θ (suc j))), mul-size a (θ 0))
+
+-- the last round of a stretch is how often it is gone through again
+last-is : (m : LoopMark) → lastOf (roundsOf m) ≡ repeats m
+last-is mark.None = refl
+last-is (mark.Counted l n b) = refl
+last-is (mark.Endless l b) = refl
+
+pub mark-few : {x : Items} → Facts x → (p : ℕ) → lastOf (roundsOf (markAt (x .places) p)) ≤ mostRounds
+mark-few {x} f p = rw (last-is (markAt (x .places) p)) (repeats-size f p)
+
+module _ (x : Items) (p : ℕ) where
+  -- the counters of place p in its first round, what a round adds, and its rounds
+  abbrev pub first : ℕ → ℤ
+  first j = base x zeros j p
+
+  abbrev pub round : ℕ → ℤ
+  round j = drift x j (firstOf (x .places) p)
+
+  abbrev times : Rounds
+  times = roundsOf (loopOf (x .places) p)
+
+-- what the code reads for guard g at place p
+pub record Known (x : Items) (g p : ℕ) (k : Guard) (u v : Counters) (r : Rounds) : Type 0 where
+  pub guard : k ≡ guardAt (x .guards) g
+  pub base : u ≡ vecOf (first x p)
+  pub drift : v ≡ vecOf (round x p)
+  pub rounds : r ≡ times x p
+
+-- a guard on these counters over these rounds: its sums fit
+abbrev pub SumsFit : Guard → Counters → Counters → Rounds → Type 0
+SumsFit g u v r = sizes (g .coefficients .at) (at u) + (lastOf r + 1) * sizes (g .coefficients .at) (at v) < 2 ^ 63
+
+-- guard g at place p
+module _ {x : Items} (f : Facts x) (g p : ℕ) where
+  -- the guard, and its counters as the tables have them
+  abbrev guard : Guard
+  guard = guardAt (x .guards) g
+
+  abbrev l : List ℤ
+  l = guard .coefficients .at
+
+  abbrev u : Counters
+  u = vecOf (first x p)
+
+  abbrev v : Counters
+  v = vecOf (round x p)
+
+  pub sums-fit : (r : Rounds) → lastOf r ≤ mostRounds → p < roomOf kind.Place → SumsFit guard u v r
+  sums-fit r k h =
+      let c = f .coefficients g in
+      let a =
+      sizes-le 999 (roomOf kind.Place * 1300000010000) l (at u) (c .1)
+      (λ j k. rw (at-is u (first x p) refl j (omega (arith, c .0))) (omega (arith, base-size f j p (omega arith)))) in
+      let b =
+      sizes-le 999 1300000 l (at v) (c .1)
+      (λ j k.
+      rw (at-is v (round x p) refl j (omega (arith, c .0)))
+      (drift-size f j (firstOf (x .places) p) (omega (arith, first-le (x .places) p)))) in
+      omega (arith, c .0, a, b, mul-le-mul k b)
+
+  -- what is made of its two sums
+  pub sums-are : {B : Type 0} (op : ℤ → ℤ → B) → op (sum l (at u)) (sum l (at v)) ≡ op (firstSum x zeros guard p) (roundSum x guard p)
+  sums-are op = let h = f .coefficients g .0 in ap₂ op (sum-is u (first x p) refl l h) (sum-is v (round x p) refl l h)
+
+module _ {x : Items} (f : Facts x) {g p : ℕ} {k : Guard} {u v : Counters} {r : Rounds} (y : Known x g p k u v r) where
+  pub guard-fits : p < roomOf kind.Place → SumsFit k u v r
+  guard-fits h = rw (y .guard, y .base, y .drift, y .rounds) (sums-fit f g p (times x p) (mark-few f (firstOf (x .places) p)) h)
+
+  pub guard-is : through (sum (k .coefficients .at) (at u)) (sum (k .coefficients .at) (at v)) (k .bound) r ≡ guardThrough x zeros (guardAt (x .guards) g) p
+  guard-is = rw (y .guard, y .base, y .drift, y .rounds) (sums-are f g p (λ a d. through a d (guardAt (x .guards) g .bound) (times x p)))

@@ -1,0 +1,306 @@
+// The marks of a sentence against what it is over the rounds of each place: the first place at which it is marked wrongly.
+ghost use mathlib.Core.Path.{_≡_};
+ghost use mathlib.Core.Bool.{cond};
+ghost use Prim.Native.Nat.{suc, _+_, _*_, _≤_, _<_, _^_};
+ghost use lib.Dec.{leb};
+ghost use Rattle.kinds.specs.declared.Kind.the-variants as kind;
+ghost use Rattle.plan.specs.Cases.{itemsOf, roomOf};
+ghost use Rattle.rules.specs.Sound.{Sound};
+ghost use Rattle.meaning.specs.Run.{sum, guardAt, stretch};
+ghost use Rattle.meaning.specs.Truth.{bit};
+ghost use Rattle.meaning.specs.Judged.{zeros, marked};
+ghost use Rattle.meaning.specs.Counting.{worth};
+ghost use Rattle.meaning.specs.Below.{labelOf};
+ghost use Rattle.verdict.specs.Rounds.{through, roundsOf, flag};
+ghost use Rattle.verdict.specs.Verdict.{guardThrough, nextBy, nextThrough, isAlways, isNever};
+ghost use Rattle.lines.specs.Last.{lastOf};
+ghost use Rattle.counters.specs.Vectors.{at};
+ghost use Rattle.counters.specs.Bounds.{sizes};
+ghost use Rattle.forward.specs.Tables.{firstsOf, tablesOf};
+ghost use Rattle.marks.specs.Wrong.{wrongIn, wrongOf, sameAlways, simpleThrough, untilsOf, stepsOf};
+ghost use Rattle.marks.specs.Ranged.{Mild};
+use best::Steps;
+use counters::Counters;
+use forward::Firsts;
+use forward::Tables;
+use items::Form;
+use items::Guard;
+use items::LoopMark;
+use items::Term;
+use kinds::PerCounter;
+use plan::Case;
+use verdict::Rounds;
+use verdict::Throughout;
+
+// Bit i of a set.
+pub fn bit(n: u32, i: u8) -> bool
+    ensures { λ r. ⌜ r ≡ bit n i ⌝ }
+{
+    if i < 32 {
+        return (n >> (i as u32)) % 2 == 1;
+    }
+    false
+}
+
+// Whether a mark is right, of a sentence that is so throughout the place.
+fn is_right(t: Throughout, marked: bool) -> bool
+    ensures { λ r. ⌜ r ≡ cond marked (isAlways t) (isNever t) ⌝ }
+{
+    if marked {
+        return lines::is_always(t);
+    }
+    lines::is_never(t)
+}
+
+// A guard, and one that is always true where there is none.
+fn guard_at(c: Case, g: u8) -> Guard
+    requires { ⌜ Sound c ⌝ }
+    ensures { λ r. ⌜ r ≡ guardAt (itemsOf c .guards) g ⌝ }
+{
+    let i = g as usize;
+    if i < Case::GUARDS {
+        return c.guards[i];
+    }
+    Guard {
+        coefficients: PerCounter {
+            at: [0i16; PerCounter::COUNT],
+        },
+        bound: 0,
+    }
+}
+
+// A guard over rounds, where its counters are those of the base at first, and each round adds the drift.
+fn guard_through(g: Guard, base: Counters, drift: Counters, rounds: Rounds) -> Throughout
+    requires { ⌜ sizes (g .coefficients .at) (at base) + (lastOf rounds + 1) * sizes (g .coefficients .at) (at drift) < 2 ^ 63 ⌝ }
+    ensures { λ r. ⌜ r ≡ through (sum (g .coefficients .at) (at base)) (sum (g .coefficients .at) (at drift)) (g .bound) rounds ⌝ }
+{
+    let a = counters::dot(g.coefficients, base);
+    let d = counters::dot(g.coefficients, drift);
+    lines::through(a, d, g.bound as i64, rounds)
+}
+
+// The first place at which sentence i, guard g, is marked wrongly.
+fn guard_wrong(c: Case, t: Tables, i: u8, g: u8) -> usize
+    requires { ⌜ (Sound c) × (t ≡ tablesOf (itemsOf c)) ⌝ }
+    ensures { λ r. ⌜ r ≡ wrongIn (itemsOf c) i (guardThrough (itemsOf c) zeros (guardAt (itemsOf c .guards) g)) ⌝ }
+{
+    let guard = guard_at(c, g);
+    let firsts = t.firsts;
+    let drifts = t.drifts;
+    let bases = t.bases;
+    let n = c.count.places;
+    let mut p: usize = 0;
+    while p < n {
+        let q = firsts.at[p] as usize;
+        let first = c.places[q];
+        let mark = first.mark;
+        let base = bases.at[p];
+        let drift = drifts.at[p];
+        let place = c.places[p];
+        let t = guard_through(guard, base, drift, lines::rounds_of(mark));
+        if is_right(t, bit(place.marks, i)) {
+            p = p + 1;
+        } else {
+            return p;
+        }
+    }
+    p
+}
+
+// What a term adds at a place with these marks.
+fn worth(marks: u32, t: Term) -> i16
+    ensures { λ r. ⌜ r ≡ worth (bit marks) t ⌝ }
+{
+    match t {
+        Term::None => 0,
+        Term::Some {
+            coefficient,
+            sentence,
+        } => {
+            if bit(marks, sentence) {
+                return coefficient;
+            }
+            0
+        }
+    }
+}
+
+// What each place does to the best sum of an until of these sentences and terms.
+fn steps_of(c: Case, a: u8, b: u8, t: Term, u: Term) -> Steps
+    requires { ⌜ Sound c ⌝ }
+    ensures { λ r. ⌜ r ≡ stepsOf (labelOf (marked (itemsOf c)) a b t u) ⌝ }
+{
+    let n = c.count.places;
+    let mut stops = [best::NONE; Case::PLACES];
+    let mut goes = [best::NONE; Case::PLACES];
+    let mut p: usize = 0;
+    while p < n {
+        let place = c.places[p];
+        let marks = place.marks;
+        let weight = (worth(marks, t) as i64) + (worth(marks, u) as i64);
+        stops[p] = best::choice(bit(marks, b), 0);
+        goes[p] = best::choice(bit(marks, a), weight);
+        p = p + 1;
+    }
+    Steps {
+        stops: stops,
+        goes: goes,
+    }
+}
+
+// The first place at which sentence i, such an until, is marked wrongly: from the last place to the first, by the best sums in its first round and in its last.
+fn until_wrong(c: Case, firsts: Firsts, i: u8, a: u8, b: u8, bound: i32, t: Term, u: Term) -> usize
+    requires { ⌜ (Sound c) × ((firsts ≡ firstsOf (itemsOf c .places)) × ((Mild t) × (Mild u))) ⌝ }
+    ensures { λ r. ⌜ r ≡ wrongIn (itemsOf c) i (untilsOf (itemsOf c) (labelOf (marked (itemsOf c)) a b t u) bound) ⌝ }
+{
+    let steps = steps_of(c, a, b, t, u);
+    let z = bound as i64;
+    let n = c.count.places;
+    let mut wrong = n;
+    let mut first = best::NONE;
+    let mut last = best::NONE;
+    let mut p = n;
+    while 0 < p {
+        p = p - 1;
+        let q = firsts.at[p] as usize;
+        let begin = c.places[q];
+        let mark = begin.mark;
+        if q + lines::stretch(mark) <= p + 1 {
+            let ends = best::around(&steps.stops, &steps.goes, q, mark, first);
+            first = ends.first;
+            last = ends.last;
+        }
+        let stop = steps.stops[p];
+        let go = steps.goes[p];
+        first = best::step(stop, go, first);
+        last = best::step(stop, go, last);
+        let here = c.places[p];
+        if !is_right(lines::agree(z <= first, z <= last), bit(here.marks, i)) {
+            wrong = p;
+        }
+    }
+    wrong
+}
+
+// Next at the last place of a stretch, by its marks at the first place and after it.
+fn next_by(r: Rounds, again: bool, out: bool) -> Throughout
+    ensures { λ t. ⌜ t ≡ nextBy r again out ⌝ }
+{
+    match r {
+        Rounds::None => lines::flag(out),
+        Rounds::UpTo(k) => {
+            if k == 0 {
+                return lines::flag(out);
+            }
+            lines::agree(again, out)
+        }
+        Rounds::Ever => lines::flag(again),
+    }
+}
+
+// Next at place p of a stretch that begins with place q.
+fn next_through(p: usize, q: usize, mark: LoopMark, again: bool, out: bool) -> Throughout
+    requires { ⌜ (p < roomOf kind.Place) × (q + stretch mark ≤ roomOf kind.Place) ⌝ }
+    ensures { λ r. ⌜ r ≡ cond (leb (q + stretch mark) (suc p)) (nextBy (roundsOf mark) again out) (flag out) ⌝ }
+{
+    if q + lines::stretch(mark) <= p + 1 {
+        return next_by(lines::rounds_of(mark), again, out);
+    }
+    lines::flag(out)
+}
+
+// The first place at which sentence i, next a, is marked wrongly: from the last place to the first.
+fn next_wrong(c: Case, firsts: Firsts, i: u8, a: u8) -> usize
+    requires { ⌜ (Sound c) × (firsts ≡ firstsOf (itemsOf c .places)) ⌝ }
+    ensures { λ r. ⌜ r ≡ wrongIn (itemsOf c) i (nextThrough (itemsOf c) a) ⌝ }
+{
+    let n = c.count.places;
+    let mut wrong = n;
+    let mut out = false;
+    let mut p = n;
+    while 0 < p {
+        p = p - 1;
+        let q = firsts.at[p] as usize;
+        let first = c.places[q];
+        let mark = first.mark;
+        let here = c.places[p];
+        let t = next_through(p, q, mark, bit(first.marks, a), out);
+        if !is_right(t, bit(here.marks, i)) {
+            wrong = p;
+        }
+        out = bit(here.marks, a);
+    }
+    wrong
+}
+
+// A sentence that is the same in every round, at a place with these propositions and marks.
+fn same_always(form: Form, propositions: u16, marks: u32) -> bool
+    ensures { λ r. ⌜ r ≡ sameAlways form propositions marks ⌝ }
+{
+    match form {
+        Form::True => true,
+        Form::Proposition(v) => bit(propositions as u32, v),
+        Form::Guard(_) => false,
+        Form::And(a, b) => {
+            if bit(marks, a) {
+                return bit(marks, b);
+            }
+            false
+        }
+        Form::Not(a) => !bit(marks, a),
+        Form::Next(_) => false,
+        Form::Until {
+            held: _,
+            goal: _,
+            bound: _,
+            term1: _,
+            term2: _,
+        } => false,
+    }
+}
+
+// The first place at which such a sentence, of number i, is marked wrongly.
+fn simple_wrong(c: Case, i: u8, form: Form) -> usize
+    requires { ⌜ Sound c ⌝ }
+    ensures { λ r. ⌜ r ≡ wrongIn (itemsOf c) i (simpleThrough (itemsOf c) form) ⌝ }
+{
+    let n = c.count.places;
+    let mut p: usize = 0;
+    while p < n {
+        let place = c.places[p];
+        let s = place.state as usize;
+        let state = c.states[s];
+        let t = lines::flag(same_always(form, state.propositions, place.marks));
+        if is_right(t, bit(place.marks, i)) {
+            p = p + 1;
+        } else {
+            return p;
+        }
+    }
+    p
+}
+
+// The first place at which sentence i is marked wrongly, and the number of places where there is none.
+pub fn wrong_place(c: Case, t: Tables, i: u8) -> usize
+    requires { ⌜ (Sound c) × ((t ≡ tablesOf (itemsOf c)) × (i < roomOf kind.Sentence)) ⌝ }
+    ensures { λ r. ⌜ r ≡ wrongOf (itemsOf c) i ⌝ }
+{
+    let firsts = t.firsts;
+    let sentence = c.sentences[i as usize];
+    let form = sentence.form;
+    match form {
+        Form::True => simple_wrong(c, i, form),
+        Form::Proposition(_) => simple_wrong(c, i, form),
+        Form::Guard(g) => guard_wrong(c, t, i, g),
+        Form::And(_, _) => simple_wrong(c, i, form),
+        Form::Not(_) => simple_wrong(c, i, form),
+        Form::Next(a) => next_wrong(c, firsts, i, a),
+        Form::Until {
+            held,
+            goal,
+            bound,
+            term1,
+            term2,
+        } => until_wrong(c, firsts, i, held, goal, bound, term1, term2),
+    }
+}
