@@ -19,7 +19,7 @@ ghost use Rattle.marks.specs.Sums.{SumsFit};
 ghost use Rattle.judge.specs.Told.{toldWay, toldTest, toldMark, isNamed, given};
 ghost use Rattle.judge.specs.Tests.{guardBy};
 ghost use Rattle.judge.specs.Sums.{isMet};
-ghost use Rattle.judge.specs.Stages.{held, orUnconnected, orGuardFails, orWrongMark, rootAnswer, marksAnswer, guardsAnswer};
+ghost use Rattle.judge.specs.Stages.{held};
 use counters::Counters;
 use forward::Tables;
 use items::Guard;
@@ -263,61 +263,6 @@ fn wrong_mark(c: Case, t: Tables) -> Search
     Search::Nowhere
 }
 
-// 35, or the plan is accepted: by the root's mark at place 0.
-fn root_answer(c: Case) -> Judgement
-    requires { ⌜ Sound c ⌝ }
-    ensures { λ r. ⌜ r ≡ rootAnswer (itemsOf c) ⌝ }
-{
-    let root = one_less(c.count.sentences) as u8;
-    let first = c.places[0];
-    if marks::bit(first.marks, root) {
-        return Judgement::Accepted;
-    }
-    Judgement::RootUnmarked(root)
-}
-
-// 34, where the search for a wrong mark found something, else by the root.
-fn marks_answer(c: Case, s: Search) -> Judgement
-    requires { ⌜ Sound c ⌝ }
-    ensures { λ r. ⌜ r ≡ orWrongMark s (rootAnswer (itemsOf c)) ⌝ }
-{
-    match s {
-        Search::Nowhere => root_answer(c),
-        Search::At(p, i) => Judgement::WrongMark(p, i),
-    }
-}
-
-// 33, where the search for a guard that fails found something, else by the marks.
-fn guards_answer(c: Case, t: Tables, s: Search) -> Judgement
-    requires { ⌜ (Sound c) × (t ≡ tablesOf (itemsOf c)) ⌝ }
-    ensures { λ r. ⌜ r ≡ orGuardFails s (marksAnswer (itemsOf c)) ⌝ }
-{
-    match s {
-        Search::Nowhere => marks_answer(c, wrong_mark(c, t)),
-        Search::At(p, g) => Judgement::GuardFails(p, g),
-    }
-}
-
-// The answer of a case whose ways all connect.
-fn connected_answer(c: Case) -> Judgement
-    requires { ⌜ Sound c ⌝ }
-    ensures { λ r. ⌜ r ≡ guardsAnswer (itemsOf c) ⌝ }
-{
-    let t = Tables::of(c);
-    guards_answer(c, t, guard_fails(c, t))
-}
-
-// 32, where the search for a way that doesn't connect found something, else by the guards.
-fn ways_answer(c: Case, s: Search) -> Judgement
-    requires { ⌜ Sound c ⌝ }
-    ensures { λ r. ⌜ r ≡ orUnconnected s (guardsAnswer (itemsOf c)) ⌝ }
-{
-    match s {
-        Search::Nowhere => connected_answer(c),
-        Search::At(p, t) => Judgement::Unconnected(p, t),
-    }
-}
-
 // Whether there is a sentence, and the endless loop has closed.
 fn finished(count: Counts, loops: Loops) -> bool
     ensures { λ r. ⌜ r ≡ (ltb 0 (count .sentences) && isClosed loops (count .places)) ⌝ }
@@ -339,19 +284,36 @@ fn held(count: Counts) -> usize
     count.states + (count.guards + (count.moves + (count.sentences + count.places)))
 }
 
-// The judgement of a case: 24, 31, then by the ways.
+// The judgement of a case: 24, 31, 32, 33, 34, 35, the first that applies, or 0.
 pub fn judge(c: Case) -> Judgement
     requires { ⌜ Sound c ⌝ }
     ensures { λ r. ⌜ r ≡ verdict (itemsOf c) zeros ⌝ }
 {
     let count = c.count;
     let loops = c.loops;
-    if finished(count, loops) {
-        let first = c.places[0];
-        if first.state == 0 {
-            return ways_answer(c, unconnected(c));
-        }
+    if !finished(count, loops) {
+        return Judgement::Unfinished(held(count));
+    }
+    let first = c.places[0];
+    if first.state != 0 {
         return Judgement::WrongStart;
     }
-    Judgement::Unfinished(held(count))
+    let way = unconnected(c);
+    if let Search::At(p, m) = way {
+        return Judgement::Unconnected(p, m);
+    }
+    let tables = Tables::of(c);
+    let guard = guard_fails(c, tables);
+    if let Search::At(p, g) = guard {
+        return Judgement::GuardFails(p, g);
+    }
+    let mark = wrong_mark(c, tables);
+    if let Search::At(p, i) = mark {
+        return Judgement::WrongMark(p, i);
+    }
+    let root = one_less(count.sentences) as u8;
+    if !marks::bit(first.marks, root) {
+        return Judgement::RootUnmarked(root);
+    }
+    Judgement::Accepted
 }
