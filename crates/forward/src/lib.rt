@@ -28,7 +28,7 @@ pub struct Tables {
 }
 
 // The number of the move that a reference names, and the number of moves that there is room for where it names none.
-pub fn slot(r: Ref) -> usize
+fn slot(r: Ref) -> usize
     ensures { λ t. ⌜ t ≡ slotOf r ⌝ }
 {
     match r {
@@ -38,7 +38,7 @@ pub fn slot(r: Ref) -> usize
 }
 
 // The same for the back move of a loop.
-pub fn back_slot(m: LoopMark) -> usize
+fn back_slot(m: LoopMark) -> usize
     ensures { λ t. ⌜ t ≡ slotOf (backOf m) ⌝ }
 {
     match m {

@@ -1,5 +1,5 @@
 // The answer of a judgement as a computation whose cost doesn't depend on the number of rounds, and the theorem that it is the one answer that the
-// meaning leaves. Definitions and theorems stand in specs/; here are the types that the code will share with them.
+// meaning leaves. Definitions and theorems stand in specs/; here are their types.
 
 // Whether something is true in every round of a place, in none, or in some only.
 pub enum Throughout {
@@ -15,7 +15,7 @@ pub enum Rounds {
     Ever,
 }
 
-// The best sum that an until can reach from a moment: none, a number, or one as great as you like.
+// The best sum that an until can reach from a moment: none, a number, or one as great as you like. (The code has a number for it: crate best.)
 pub enum Best {
     None,
     Sum(i64),
