@@ -3,5 +3,4 @@ pub mod Laws
 pub mod Ways
 pub mod Tests
 pub mod Sums
-pub mod Marks
 pub mod Stages

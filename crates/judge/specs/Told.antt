@@ -1,13 +1,13 @@
--- What a search found, as the code tells it: the place, and the number of the move, the guard or the sentence.
+-- What a search found, as the code tells it: the place, and the number of the move or the guard.
 use mathlib.Core.Bool.{Bool, true, false}
 use Rattle.items.specs.declared.Ref.{Ref}
 use Rattle.items.specs.declared.Ref.the-variants as ref
 use Rattle.plan.specs.Cases.{Items}
 use Rattle.meaning.specs.Run.{Way, moveNo}
-use Rattle.meaning.specs.Judged.{Test, Mark}
+use Rattle.meaning.specs.Judged.{Test}
 use Rattle.verdict.specs.Verdict.{Found, nowhere, at, numberOf}
-use Rattle.judge.specs.declared.Search.{Search}
-use Rattle.judge.specs.declared.Search.the-variants.{Nowhere, At}
+use Rattle.marks.specs.declared.Search.{Search}
+use Rattle.marks.specs.declared.Search.the-variants.{Nowhere, At}
 
 -- a way, with its move
 abbrev pub toldWay : Items → Found Way → Search
@@ -18,11 +18,6 @@ toldWay x (at w) = At (record { 0 = w .place }) (numberOf (moveNo (x .places) w)
 abbrev pub toldTest : Found Test → Search
 toldTest nowhere = Nowhere
 toldTest (at t) = At (record { 0 = t .way .place }) (t .guard)
-
--- a sentence at a place
-abbrev pub toldMark : Found Mark → Search
-toldMark nowhere = Nowhere
-toldMark (at k) = At (record { 0 = k .place }) (k .sentence)
 
 -- whether a reference names something
 abbrev pub isNamed : Ref → Bool

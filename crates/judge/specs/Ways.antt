@@ -24,8 +24,9 @@ use Rattle.meaning.specs.Facts.{Facts}
 use Rattle.meaning.specs.Given.{facts}
 use Rattle.verdict.specs.Verdict.{Found, firstNot, connects, numberOf}
 use Rattle.forward.specs.Reads.{at-places, at-moves}
+use Rattle.marks.specs.Found.{found, found-start}
 use Rattle.judge.specs.Told.{isNamed}
-use Rattle.judge.specs.Laws.{found, found-start, listed, each, fails, gather-two}
+use Rattle.judge.specs.Laws.{listed, each, fails, gather-two}
 
 -- way k
 abbrev pub wayNo : ℕ → Way

@@ -10,13 +10,13 @@ ghost use Rattle.plan.specs.Cases.{itemsOf, roomOf};
 ghost use Rattle.plan.specs.Taking.{isClosed};
 ghost use Rattle.rules.specs.Sound.{Sound};
 ghost use Rattle.meaning.specs.Run.{stretch, backOf};
-ghost use Rattle.meaning.specs.Judged.{zeros, waysOf, testsOf, marksOf};
+ghost use Rattle.meaning.specs.Judged.{zeros, waysOf, testsOf};
 ghost use Rattle.verdict.specs.declared.Rounds.the-variants as rounds;
 ghost use Rattle.verdict.specs.Rounds.{roundsOf, later};
-ghost use Rattle.verdict.specs.Verdict.{firstNot, connects, passes, right, numberOf, verdict};
+ghost use Rattle.verdict.specs.Verdict.{firstNot, connects, passes, numberOf, verdict};
 ghost use Rattle.forward.specs.Tables.{tablesOf};
 ghost use Rattle.marks.specs.Sums.{SumsFit};
-ghost use Rattle.judge.specs.Told.{toldWay, toldTest, toldMark, isNamed, given};
+ghost use Rattle.judge.specs.Told.{toldWay, toldTest, isNamed, given};
 ghost use Rattle.judge.specs.Tests.{guardBy};
 ghost use Rattle.judge.specs.Sums.{isMet};
 ghost use Rattle.judge.specs.Stages.{held};
@@ -28,17 +28,12 @@ use items::Move;
 use items::Place;
 use items::Ref;
 use kinds::Counts;
+use marks::Search;
 use meaning::Judgement;
 use plan::Case;
 use plan::Loops;
 use plan::PlaceNo;
 use verdict::Rounds;
-
-// What a search found: the place, and the number of the move, the guard or the sentence.
-pub enum Search {
-    Nowhere,
-    At(PlaceNo, u8),
-}
 
 // One less, and 0 for 0.
 fn one_less(n: usize) -> usize
@@ -245,24 +240,6 @@ fn guard_fails(c: Case, t: Tables) -> Search
     Search::Nowhere
 }
 
-// The first wrong mark: by sentence, then by place.
-fn wrong_mark(c: Case, t: Tables) -> Search
-    requires { ⌜ (Sound c) × (t ≡ tablesOf (itemsOf c)) ⌝ }
-    ensures { λ r. ⌜ r ≡ toldMark (firstNot (right (itemsOf c) zeros) (marksOf (itemsOf c))) ⌝ }
-{
-    let n = c.count.sentences;
-    let places = c.count.places;
-    let mut i: usize = 0;
-    while i < n {
-        let p = marks::wrong_place(c, t, i as u8);
-        if p < places {
-            return Search::At(PlaceNo(p), i as u8);
-        }
-        i = i + 1;
-    }
-    Search::Nowhere
-}
-
 // Whether there is a sentence, and the endless loop has closed.
 fn finished(count: Counts, loops: Loops) -> bool
     ensures { λ r. ⌜ r ≡ (ltb 0 (count .sentences) && isClosed loops (count .places)) ⌝ }
@@ -307,7 +284,7 @@ pub fn judge(c: Case) -> Judgement
     if let Search::At(p, g) = guard {
         return Judgement::GuardFails(p, g);
     }
-    let mark = wrong_mark(c, tables);
+    let mark = marks::wrong_mark(c, tables);
     if let Search::At(p, i) = mark {
         return Judgement::WrongMark(p, i);
     }

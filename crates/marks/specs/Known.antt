@@ -120,3 +120,7 @@ module _ {c : Case} (s : Sound c) (i : ℕ) {φ : Form} (e : getD (c .sentences)
 
   pub wrong-by : wrongIn (itemsOf c) i (formThrough (itemsOf c) zeros φ) ≡ wrongOf (itemsOf c) i
   wrong-by = ap (λ ψ. wrongIn (itemsOf c) i (formThrough (itemsOf c) zeros ψ)) (sym form-is)
+
+  pub simple-by : simpleThrough (itemsOf c) φ ≡ formThrough (itemsOf c) zeros φ
+      → wrongIn (itemsOf c) i (simpleThrough (itemsOf c) (getD (c .sentences) i (noItem kind.Sentence) .form)) ≡ wrongOf (itemsOf c) i
+  simple-by k = ap (λ ψ. wrongIn (itemsOf c) i (simpleThrough (itemsOf c) ψ)) e ∙ ap (wrongIn (itemsOf c) i) k ∙ wrong-by

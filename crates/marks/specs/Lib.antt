@@ -6,3 +6,5 @@ pub mod Known
 pub mod Sums
 pub mod Steps
 pub mod Untils
+pub mod Found
+pub mod Marks

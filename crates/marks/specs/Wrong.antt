@@ -1,4 +1,4 @@
--- The first place at which a sentence is marked wrongly.
+-- The first place at which a sentence is marked wrongly, and what a search for a wrong mark found, as the code tells it.
 use mathlib.Core.Bool.{Bool, true, false, cond, not, _&&_}
 use Prim.Native.Nat.{ℕ, zero, suc, _-_}
 use lib.IntN.{ℤ}
@@ -11,13 +11,15 @@ use Rattle.plan.specs.Cases.{Items, roomOf, noItem}
 use Rattle.meaning.specs.declared.Label.{Label}
 use Rattle.meaning.specs.Truth.{bit}
 use Rattle.meaning.specs.Run.{placeAt}
-use Rattle.meaning.specs.Judged.{zeros, stateOf, marked}
+use Rattle.meaning.specs.Judged.{zeros, stateOf, marked, Mark}
 use Rattle.verdict.specs.declared.Throughout.{Throughout}
 use Rattle.verdict.specs.Rounds.{flag}
 use Rattle.verdict.specs.Best.{front}
-use Rattle.verdict.specs.Verdict.{untilThrough, formThrough, isAlways, isNever}
+use Rattle.verdict.specs.Verdict.{Found, nowhere, at, untilThrough, formThrough, isAlways, isNever}
 use Rattle.best.specs.declared.Steps.{Steps}
 use Rattle.best.specs.Numbers.{stopOf, goOf}
+use Rattle.marks.specs.declared.Search.{Search}
+use Rattle.marks.specs.declared.Search.the-variants.{Nowhere, At}
 
 -- the first of d numbers from p on that fails a test, and the number after them where none does
 unfoldable pub firstOff : (ℕ → Bool) → ℕ → ℕ → ℕ
@@ -63,3 +65,10 @@ sameAlways (form.Until a b z t u) s m = false
 -- and over the rounds of place p
 abbrev pub simpleThrough : Items → Form → ℕ → Throughout
 simpleThrough x φ p = flag (sameAlways φ (getD (x .states) (stateOf x p) (noItem kind.State) .propositions) (placeAt (x .places) p .marks))
+
+-- ---- what a search for a wrong mark found
+
+-- a sentence at a place
+abbrev pub toldMark : Found Mark → Search
+toldMark nowhere = Nowhere
+toldMark (at k) = At (record { 0 = k .place }) (k .sentence)

@@ -8,16 +8,16 @@ ghost use Rattle.plan.specs.Cases.{itemsOf, roomOf};
 ghost use Rattle.rules.specs.Sound.{Sound};
 ghost use Rattle.meaning.specs.Run.{sum, guardAt, stretch};
 ghost use Rattle.meaning.specs.Truth.{bit};
-ghost use Rattle.meaning.specs.Judged.{zeros, marked};
+ghost use Rattle.meaning.specs.Judged.{zeros, marked, marksOf};
 ghost use Rattle.meaning.specs.Counting.{worth};
 ghost use Rattle.meaning.specs.Below.{labelOf};
 ghost use Rattle.verdict.specs.Rounds.{through, roundsOf, flag};
-ghost use Rattle.verdict.specs.Verdict.{guardThrough, nextBy, nextThrough, isAlways, isNever};
+ghost use Rattle.verdict.specs.Verdict.{firstNot, guardThrough, nextBy, nextThrough, isAlways, isNever, right};
 ghost use Rattle.lines.specs.Last.{lastOf};
 ghost use Rattle.counters.specs.Vectors.{at};
 ghost use Rattle.counters.specs.Bounds.{sizes};
 ghost use Rattle.forward.specs.Tables.{firstsOf, tablesOf};
-ghost use Rattle.marks.specs.Wrong.{wrongIn, wrongOf, sameAlways, simpleThrough, untilsOf, stepsOf};
+ghost use Rattle.marks.specs.Wrong.{wrongIn, sameAlways, simpleThrough, untilsOf, stepsOf, toldMark};
 ghost use Rattle.marks.specs.Ranged.{Mild};
 use best::Steps;
 use counters::Counters;
@@ -29,8 +29,15 @@ use items::LoopMark;
 use items::Term;
 use kinds::PerCounter;
 use plan::Case;
+use plan::PlaceNo;
 use verdict::Rounds;
 use verdict::Throughout;
+
+// What a search found: the place, and the number of the move, the guard or the sentence.
+pub enum Search {
+    Nowhere,
+    At(PlaceNo, u8),
+}
 
 // Bit i of a set.
 pub fn bit(n: u32, i: u8) -> bool
@@ -280,27 +287,38 @@ fn simple_wrong(c: Case, i: u8, form: Form) -> usize
     p
 }
 
-// The first place at which sentence i is marked wrongly, and the number of places where there is none.
-pub fn wrong_place(c: Case, t: Tables, i: u8) -> usize
-    requires { ⌜ (Sound c) × ((t ≡ tablesOf (itemsOf c)) × (i < roomOf kind.Sentence)) ⌝ }
-    ensures { λ r. ⌜ r ≡ wrongOf (itemsOf c) i ⌝ }
+// The first wrong mark: by sentence, then by place.
+pub fn wrong_mark(c: Case, t: Tables) -> Search
+    requires { ⌜ (Sound c) × (t ≡ tablesOf (itemsOf c)) ⌝ }
+    ensures { λ r. ⌜ r ≡ toldMark (firstNot (right (itemsOf c) zeros) (marksOf (itemsOf c))) ⌝ }
 {
     let firsts = t.firsts;
-    let sentence = c.sentences[i as usize];
-    let form = sentence.form;
-    match form {
-        Form::True => simple_wrong(c, i, form),
-        Form::Proposition(_) => simple_wrong(c, i, form),
-        Form::Guard(g) => guard_wrong(c, t, i, g),
-        Form::And(_, _) => simple_wrong(c, i, form),
-        Form::Not(_) => simple_wrong(c, i, form),
-        Form::Next(a) => next_wrong(c, firsts, i, a),
-        Form::Until {
-            held,
-            goal,
-            bound,
-            term1,
-            term2,
-        } => until_wrong(c, firsts, i, held, goal, bound, term1, term2),
+    let n = c.count.sentences;
+    let places = c.count.places;
+    let mut i: usize = 0;
+    while i < n {
+        let sentence = c.sentences[i];
+        let form = sentence.form;
+        let k = i as u8;
+        let p = match form {
+            Form::True => simple_wrong(c, k, form),
+            Form::Proposition(_) => simple_wrong(c, k, form),
+            Form::Guard(g) => guard_wrong(c, t, k, g),
+            Form::And(_, _) => simple_wrong(c, k, form),
+            Form::Not(_) => simple_wrong(c, k, form),
+            Form::Next(a) => next_wrong(c, firsts, k, a),
+            Form::Until {
+                held,
+                goal,
+                bound,
+                term1,
+                term2,
+            } => until_wrong(c, firsts, k, held, goal, bound, term1, term2),
+        };
+        if p < places {
+            return Search::At(PlaceNo(p), k);
+        }
+        i = i + 1;
     }
+    Search::Nowhere
 }

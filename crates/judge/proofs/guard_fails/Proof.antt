@@ -15,10 +15,11 @@ use Rattle.verdict.specs.Rounds.{roundsBy}
 use Rattle.verdict.specs.Verdict.{firstNot, passes, numberOf}
 use Rattle.forward.specs.declared.Tables.{Tables}
 use Rattle.forward.specs.Tables.{firstsOf}
+use Rattle.marks.specs.declared.Search.the-variants.{At}
 use Rattle.marks.specs.Known.{first-within, base-is, drift-is}
-use Rattle.judge.specs.declared.Search.the-variants.{At}
+use Rattle.marks.specs.Found.{found-end}
 use Rattle.judge.specs.Told.{toldTest, isNamed}
-use Rattle.judge.specs.Laws.{fails, found-here, found-later, found-end, each}
+use Rattle.judge.specs.Laws.{fails, found-here, found-later, each}
 use Rattle.judge.specs.Ways.{wayNo, way-move, move-below}
 use Rattle.judge.specs.Tests.{guardNo, isTest, testNo, testsFrom, tests-start, guard-read, guard-below, guard-at, rounds-at}
 use Rattle.judge.specs.Sums.{test-fits, test-is}

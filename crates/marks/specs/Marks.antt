@@ -10,11 +10,10 @@ use lib.ListN.{length}
 use Rattle.plan.specs.Cases.{Items}
 use Rattle.meaning.specs.Judged.{from, zeros, Mark, marksOf}
 use Rattle.verdict.specs.Verdict.{Found, nowhere, at, firstNot, right}
-use Rattle.marks.specs.Wrong.{firstOff, wrongOf}
-use Rattle.judge.specs.declared.Search.{Search}
-use Rattle.judge.specs.declared.Search.the-variants.{Nowhere, At}
-use Rattle.judge.specs.Told.{toldMark}
-use Rattle.judge.specs.Laws.{orElse, found, found-start, found-turn, found-end}
+use Rattle.marks.specs.declared.Search.{Search}
+use Rattle.marks.specs.declared.Search.the-variants.{Nowhere, At}
+use Rattle.marks.specs.Wrong.{firstOff, wrongOf, toldMark}
+use Rattle.marks.specs.Found.{orElse, found, found-start, found-turn, found-end}
 
 -- ---- a row, which has a k for each number k
 
