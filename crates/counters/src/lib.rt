@@ -1,7 +1,7 @@
-// A value for each counter: sums, differences, multiples, and the sum of coefficient times counter.
+// A value for each counter: n times another more, and the sum of coefficient times counter.
 ghost use mathlib.Core.Path.{_≡_};
 ghost use Prim.Native.Nat.{ℕ, _+_, _*_, _<_, _^_};
-ghost use lib.IntN.{pos, _+ℤ_, _-ℤ_, _*ℤ_};
+ghost use lib.IntN.{pos, _+ℤ_, _*ℤ_};
 ghost use Rattle.integer.specs.Sizes.{size};
 ghost use Rattle.kinds.specs.Table.{counters};
 ghost use Rattle.meaning.specs.Run.{sum};
@@ -37,49 +37,17 @@ pub fn widened(u: PerCounter) -> Counters
     Counters { at: each }
 }
 
-// The sum, counter by counter.
-pub fn plus(a: Counters, b: Counters) -> Counters
-    requires { ⌜ ((j : ℕ) → j < counters → size (at a j) + size (at b j) < 2 ^ 63) ⌝ }
-    ensures { λ r. ⌜ r .at ≡ vec (λ j. at a j +ℤ at b j) ⌝ }
+// n times b more, counter by counter.
+pub fn more(a: Counters, n: i64, b: Counters) -> Counters
+    requires { ⌜ ((j : ℕ) → j < counters → size (at a j) + size n * size (at b j) < 2 ^ 63) ⌝ }
+    ensures { λ r. ⌜ r .at ≡ vec (λ j. at a j +ℤ n *ℤ at b j) ⌝ }
 {
     let x = a.at;
     let y = b.at;
     let mut each = [0i64; PerCounter::COUNT];
     let mut j: usize = 0;
     while j < PerCounter::COUNT {
-        each[j] = x[j] + y[j];
-        j = j + 1;
-    }
-    Counters { at: each }
-}
-
-// The difference, counter by counter.
-pub fn minus(a: Counters, b: Counters) -> Counters
-    requires { ⌜ ((j : ℕ) → j < counters → size (at a j) + size (at b j) < 2 ^ 63) ⌝ }
-    ensures { λ r. ⌜ r .at ≡ vec (λ j. at a j -ℤ at b j) ⌝ }
-{
-    let x = a.at;
-    let y = b.at;
-    let mut each = [0i64; PerCounter::COUNT];
-    let mut j: usize = 0;
-    while j < PerCounter::COUNT {
-        each[j] = x[j] - y[j];
-        j = j + 1;
-    }
-    Counters { at: each }
-}
-
-// n times each.
-pub fn times(n: u32, a: Counters) -> Counters
-    requires { ⌜ ((j : ℕ) → j < counters → n * size (at a j) < 2 ^ 63) ⌝ }
-    ensures { λ r. ⌜ r .at ≡ vec (λ j. pos n *ℤ at a j) ⌝ }
-{
-    let x = a.at;
-    let k = n as i64;
-    let mut each = [0i64; PerCounter::COUNT];
-    let mut j: usize = 0;
-    while j < PerCounter::COUNT {
-        each[j] = k * x[j];
+        each[j] = x[j] + n * y[j];
         j = j + 1;
     }
     Counters { at: each }

@@ -1,10 +1,10 @@
 -- The entries of the tables of judging: how they are read, how a loop fills them, and sums of them. Assumes nothing.
 use mathlib.Core.Path.{_≡_, sym, _∙_, ap, ap₂, subst}
 use mathlib.Core.List.{List, [], _∷_, _++_}
-use Prim.Native.Nat.{ℕ, zero, suc, _+_, _-_, _<_, _^_}
+use Prim.Native.Nat.{ℕ, zero, suc, _+_, _-_, _*_, _<_, _^_}
 use native.Mathlib.Numerals.{add-one}
 use native.Mathlib.Omega.{arith}
-use lib.IntN.{ℤ}
+use lib.IntN.{ℤ, _+ℤ_, _*ℤ_}
 use lib.ListN.{getD, set, replicate, List·getD-append}
 use lib.Seq.{set-at, append-snoc}
 use Rattle.integer.specs.Sizes.{size}
@@ -87,17 +87,12 @@ has {v} f e = record { each = at-is v f (ap (λ (u : Counters). u .at) e) }
 pub values-same : (f g : ℕ → ℤ) → ((j : ℕ) → j < counters → f j ≡ g j) → vecOf f ≡ vecOf g
 values-same f g h = ap (λ (l : List ℤ). record { at = l }) (vec-same f g h)
 
--- values from those of one, and from those of two
-module _ {a r : Counters} {f : ℕ → ℤ} (p : Has a f) where
-  pub of-one : (op : ℤ → ℤ) → r .at ≡ vec (λ j. op (at a j)) → r ≡ vecOf (λ j. op (f j))
-  of-one op e = ap (λ (l : List ℤ). record { at = l }) e ∙ values-same (λ j. op (at a j)) (λ j. op (f j)) (λ j h. ap op (p .each j h))
+-- n times b more, where m is n, and a has the values f j and b the values g j
+module _ (n : ℤ) {m : ℤ} (e : m ≡ n) {a b : Counters} {f g : ℕ → ℤ} (p : Has a f) (q : Has b g) where
+  pub sums-small : ((j : ℕ) → size (f j) + size n * size (g j) < 2 ^ 63) → (j : ℕ) → j < counters → size (at a j) + size m * size (at b j) < 2 ^ 63
+  sums-small s j h = rw (e, p .each j h, q .each j h) (s j)
 
-module _ {a b r : Counters} {f g : ℕ → ℤ} (p : Has a f) (q : Has b g) where
-  pub of-two : (op : ℤ → ℤ → ℤ) → r .at ≡ vec (λ j. op (at a j) (at b j)) → r ≡ vecOf (λ j. op (f j) (g j))
-  of-two op e =
-      ap (λ (l : List ℤ). record { at = l }) e
-      ∙ values-same (λ j. op (at a j) (at b j)) (λ j. op (f j) (g j)) (λ j h. ap₂ op (p .each j h) (q .each j h))
-
-pub both-small : {a b : Counters} {f g : ℕ → ℤ} → Has a f → Has b g → ((j : ℕ) → size (f j) + size (g j) < 2 ^ 63) →
-    (j : ℕ) → j < counters → size (at a j) + size (at b j) < 2 ^ 63
-both-small p q s j h = rw (p .each j h, q .each j h) (s j)
+  pub sums-are : {r : Counters} {s : ℕ → ℤ} → r .at ≡ vec (λ j. at a j +ℤ m *ℤ at b j) → ((j : ℕ) → f j +ℤ n *ℤ g j ≡ s j) → r ≡ vecOf s
+  sums-are {s = s} i l =
+      ap (λ (k : List ℤ). record { at = k }) i
+      ∙ values-same (λ j. at a j +ℤ m *ℤ at b j) s (λ j h. rw (e, p .each j h, q .each j h) (l j))

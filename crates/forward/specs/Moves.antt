@@ -1,9 +1,10 @@
 -- The updates of the move that a reference names, added to a value for each counter; where it names none, nothing is added. Assumes nothing.
-use mathlib.Core.Path.{_≡_, sym, _∙_, ap}
-use Prim.Native.Nat.{ℕ, _+_, _≤_, _<_, _^_}
+use mathlib.Core.Path.{_≡_, refl, sym, _∙_, ap}
+use Prim.Native.Nat.{ℕ, _+_, _*_, _≤_, _<_, _^_}
 use native.Mathlib.Omega.{arith}
-use lib.IntN.{ℤ, pos, _+ℤ_, +ℤ-idr}
+use lib.IntN.{ℤ, pos, _+ℤ_, _*ℤ_, +ℤ-idr}
 use lib.ListN.{getD}
+use Rattle.integer.specs.Sums.{once-more}
 use Rattle.integer.specs.Sizes.{size}
 use Rattle.kinds.specs.declared.Kind.the-variants as kind
 use Rattle.kinds.specs.Table.{counters}
@@ -19,7 +20,7 @@ use Rattle.counters.specs.Vectors.{at, vec}
 use Rattle.counters.specs.Bounds.{within-size}
 use Rattle.forward.specs.Tables.{vecOf, slotOf}
 use Rattle.forward.specs.Reads.{move-is, adds-none}
-use Rattle.forward.specs.Entries.{Has, has, values-same, of-two, both-small}
+use Rattle.forward.specs.Entries.{Has, has, values-same, sums-small, sums-are}
 
 -- the move that r names has number t; v has the values f j, and u the updates of the move that is read
 module _ {c : Case} (s : Sound c) {t : ℕ} (r : Ref) (e : t ≡ slotOf r) {v : Counters} (f : ℕ → ℤ) (p : v ≡ vecOf f) where
@@ -34,9 +35,9 @@ module _ {c : Case} (s : Sound c) {t : ℕ} (r : Ref) (e : t ≡ slotOf r) {v : 
     updates-have : Has u adds
     updates-have = record { each = λ j k. ap (λ l. getD l j (pos 0)) q ∙ ap (λ (m : Move). update m j) (move-is s r e d h) }
 
-    pub more-small : ((j : ℕ) → size (f j) ≤ 2 ^ 62) → (j : ℕ) → j < counters → size (at v j) + size (at u j) < 2 ^ 63
+    pub more-small : ((j : ℕ) → size (f j) ≤ 2 ^ 62) → (j : ℕ) → j < counters → size (at v j) + size (pos 1) * size (at u j) < 2 ^ 63
     more-small l =
-        both-small (has f p) updates-have (λ j. omega (arith, l j, within-size 9999 (adds j) (facts c s .updates r j)))
+        sums-small (pos 1) refl (has f p) updates-have (λ j. omega (arith, l j, within-size 9999 (adds j) (facts c s .updates r j)))
 
-    pub more : {w : Counters} → w .at ≡ vec (λ j. at v j +ℤ at u j) → w ≡ vecOf (λ j. f j +ℤ adds j)
-    more a = of-two (has f p) updates-have _+ℤ_ a
+    pub more : {w : Counters} → w .at ≡ vec (λ j. at v j +ℤ pos 1 *ℤ at u j) → w ≡ vecOf (λ j. f j +ℤ adds j)
+    more a = sums-are (pos 1) refl (has f p) updates-have a (λ j. once-more (f j) (adds j))

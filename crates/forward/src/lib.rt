@@ -89,7 +89,7 @@ fn ways(c: Case) -> Table
         if t < Case::MOVES {
             let m = c.moves[t];
             let u = m.updates;
-            w = counters::plus(w, counters::widened(u));
+            w = counters::more(w, 1, counters::widened(u));
         }
         at[p] = w;
         p = p + 1;
@@ -112,12 +112,12 @@ fn drifts(c: Case, f: Firsts, w: Table) -> Table
         let e = q + lines::stretch(mark) - 1;
         let x = w.at[e];
         let y = w.at[q];
-        let mut d = counters::minus(x, y);
+        let mut d = counters::more(x, -1, y);
         let t = back_slot(mark);
         if t < Case::MOVES {
             let m = c.moves[t];
             let u = m.updates;
-            d = counters::plus(d, counters::widened(u));
+            d = counters::more(d, 1, counters::widened(u));
         }
         at[p] = d;
         p = p + 1;
@@ -137,14 +137,14 @@ fn bases(c: Case, f: Firsts, w: Table, d: Table) -> Table
     while p < n {
         let x = w.at[p];
         let y = d.at[p];
-        at[p] = counters::plus(x, r);
+        at[p] = counters::more(x, 1, r);
         let q = f.at[p] as usize;
         let place = c.places[q];
         let mark = place.mark;
         p = p + 1;
         if q + lines::stretch(mark) <= p {
             let k = lines::repeats(mark);
-            r = counters::plus(r, counters::times(k, y));
+            r = counters::more(r, k as i64, y);
         }
     }
     Table { at: at }

@@ -48,14 +48,22 @@ module _ (w : Width) where
     pub add-read : size a + size b < 2 ^ hbits w → toZ w (ofZ w (x +ℤ y)) ≡ a +ℤ b
     add-read h = rw (p, q) (size-read (a +ℤ b) (omega (arith, add-size a b)))
 
-    pub sub-fits : size a + size b < 2 ^ hbits w → SFits w (x -ℤ y)
-    sub-fits h = rw (p, q) (size-fits (a -ℤ b) (omega (arith, sub-size a b)))
-
-    pub sub-read : size a + size b < 2 ^ hbits w → toZ w (ofZ w (x -ℤ y)) ≡ a -ℤ b
-    sub-read h = rw (p, q) (size-read (a -ℤ b) (omega (arith, sub-size a b)))
-
     pub mul-fits : size a * size b < 2 ^ hbits w → SFits w (x *ℤ y)
     mul-fits h = rw (p, q) (size-fits (a *ℤ b) (omega (arith, mul-size a b)))
 
     pub mul-read : size a * size b < 2 ^ hbits w → toZ w (ofZ w (x *ℤ y)) ≡ a *ℤ b
     mul-read h = rw (p, q) (size-read (a *ℤ b) (omega (arith, mul-size a b)))
+
+  -- of a and n times b, where x, m and y stand for a, n and b
+  module _ {x m y a n b : ℤ} (p : x ≡ a) (k : m ≡ n) (q : y ≡ b) (h : size a + size n * size b < 2 ^ hbits w) where
+    pub times-fits : SFits w (m *ℤ y)
+    times-fits = mul-fits k q (omega arith)
+
+    times-read : toZ w (ofZ w (m *ℤ y)) ≡ n *ℤ b
+    times-read = mul-read k q (omega arith)
+
+    pub more-fits : SFits w (x +ℤ toZ w (ofZ w (m *ℤ y)))
+    more-fits = add-fits p times-read (omega (arith, mul-size n b))
+
+    pub more-read : toZ w (ofZ w (x +ℤ toZ w (ofZ w (m *ℤ y)))) ≡ a +ℤ n *ℤ b
+    more-read = add-read p times-read (omega (arith, mul-size n b))

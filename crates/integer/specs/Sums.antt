@@ -6,7 +6,7 @@ use mathlib.Core.Bool.{Bool, true, false, cond}
 use Prim.Native.Nat.{ℕ, zero, suc, _+_, _≤_, _<_}
 use native.Mathlib.Omega.{arith}
 use lib.Dec.{leb, ltb, leb→le, le→leb, ltb→lt, nltb→le, nleb→lt}
-use lib.IntN.{ℤ, pos, negsuc, _+ℤ_, _*ℤ_, negℤ, subℕ, +ℤ-assoc, +ℤ-idl, sucℤ-*ℤ, predℤ-*ℤ, zero-*ℤ, negℤ-+ℤ}
+use lib.IntN.{ℤ, pos, negsuc, _+ℤ_, _-ℤ_, _*ℤ_, negℤ, subℕ, +ℤ-assoc, +ℤ-idl, sucℤ-*ℤ, predℤ-*ℤ, zero-*ℤ, negℤ-+ℤ}
 use lib.Signed.{_≤ℤ_}
 use Rattle.integer.specs.Order.{up, down}
 
@@ -66,8 +66,14 @@ swap-sums a b c d = simp (+ℤ-assoc, left-comm)
 
 -- ---- products
 
+pub once-more : (a d : ℤ) → a +ℤ pos 1 *ℤ d ≡ a +ℤ d
+once-more a d = ap (λ z. a +ℤ z) (sucℤ-*ℤ (pos 0) d ∙ ap (λ z. z +ℤ d) (zero-*ℤ d) ∙ +ℤ-idl d)
+
 minus-times : (d : ℤ) → negsuc 0 *ℤ d ≡ negℤ d
 minus-times d = predℤ-*ℤ (pos 0) d ∙ ap (λ z. z +ℤ negℤ d) (zero-*ℤ d) ∙ +ℤ-idl (negℤ d)
+
+pub once-less : (a d : ℤ) → a +ℤ negsuc 0 *ℤ d ≡ a -ℤ d
+once-less a d = ap (λ z. a +ℤ z) (minus-times d)
 
 pub times-sum : (a x y : ℤ) → a *ℤ (x +ℤ y) ≡ a *ℤ x +ℤ a *ℤ y
 times-sum (pos zero) x y = zero-*ℤ (x +ℤ y) ∙ sym (ap₂ _+ℤ_ (zero-*ℤ x) (zero-*ℤ y))

@@ -4,13 +4,13 @@ use mathlib.Core.Path.{_≡_, refl, _∙_}
 use Prim.Native.Nat.{_+_, _*_, _-_, _≤_, _<_, _^_}
 use native.Mathlib.Numerals.{add-one}
 use native.Mathlib.Omega.{arith}
-use lib.IntN.{ℤ, pos, _*ℤ_}
+use lib.IntN.{ℤ, pos}
 use lib.ListN.{getD, take, length}
 use lib.Seq.{take-all}
 use mir.Syntax.{w16, w64}
 use mir.Val.{SFits, toZ, ofZ}
 use mir.Facts.{toZ-ofZ, sfits-widen}
-use Rattle.integer.specs.Sizes.{size, mul-size, add-fits, add-read, mul-fits, mul-read}
+use Rattle.integer.specs.Sizes.{size, times-fits, more-fits, more-read}
 use Rattle.kinds.specs.Table.{counters}
 use Rattle.meaning.specs.Run.{sum}
 use Rattle.counters.specs.Vectors.{at, sum-more}
@@ -54,17 +54,11 @@ module _ (c : tie.After-total2 Inv-loop μ-loop) where
   small : size s + size x * size y < 2 ^ 63
   small = omega (arith, sum-within (t .args .c .at) (at (t .args .v)) (l .loop .j) inside, t .pre)
 
-  small-sum : size s + size (x *ℤ y) < 2 ^ 63
-  small-sum = omega (arith, small, mul-size x y)
-
   x-read : toZ w64 (ofZ w64 (toZ w16 (ofZ w16 x))) ≡ x
   x-read = toZ-ofZ (cast-total (c .before)) ∙ toZ-ofZ (fits (c .before))
 
   y-read : toZ w64 (ofZ w64 y) ≡ y
   y-read = toZ-ofZ (sfits-of (c .total2 .given))
-
-  product : toZ w64 (ofZ w64 (toZ w64 (ofZ w64 (toZ w16 (ofZ w16 x))) *ℤ toZ w64 (ofZ w64 y))) ≡ x *ℤ y
-  product = mul-read w64 x-read y-read (omega (arith, small))
 
 loop-holds : tie.Need-loop-holds Inv-loop μ-loop
 unfolding sum
@@ -83,10 +77,10 @@ array-copy-out-total-2 : tie.Need-array-copy-out-total-2 Inv-loop μ-loop
 array-copy-out-total-2 c = search needs
 
 mul-total-3 : tie.Need-mul-total-3 Inv-loop μ-loop
-mul-total-3 c = mul-fits w64 (x-read c) (y-read c) (omega (arith, small c))
+mul-total-3 c = times-fits w64 (l c .loop .inv .1) (x-read c) (y-read c) (small c)
 
 add-total : tie.Need-add-total Inv-loop μ-loop
-add-total c = add-fits w64 (l c .loop .inv .1) (product c) (small-sum c)
+add-total c = more-fits w64 (l c .loop .inv .1) (x-read c) (y-read c) (small c)
 
 add-j : tie.Need-add-j Inv-loop μ-loop
 add-j c = search needs
@@ -96,8 +90,11 @@ loop-less c = search needs
 
 loop-again : tie.Need-loop-again Inv-loop μ-loop
 loop-again c =
-    let k = t c .args in
-    (omega arith, add-read w64 (l c .loop .inv .1) (product c) (small-sum c) ∙ rw (add-one, sum-more (k .c .at) (at (k .v)) (l c .loop .j) (inside c)))
+    let k = t c .args in (
+      omega arith,
+      more-read w64 (l c .loop .inv .1) (x-read c) (y-read c) (small c)
+          ∙ rw (add-one, sum-more (k .c .at) (at (k .v)) (l c .loop .j) (inside c)),
+    )
 
 returns : tie.Need-returns Inv-loop μ-loop
 returns c =

@@ -1,12 +1,15 @@
 -- The loop adds what the ways and the rounds before each place add. Assumes nothing.
 use borrow.Author.Needs.{needs}
-use mathlib.Core.Path.{_≡_, sym, _∙_, ap}
+use mathlib.Core.Path.{_≡_, refl, sym, _∙_, ap}
 use mathlib.Core.List.{List, []}
 use Prim.Native.Nat.{ℕ, _+_, _-_, _≤_, _<_}
 use native.Mathlib.Omega.{arith}
-use lib.IntN.{ℤ, pos, _+ℤ_, _*ℤ_}
+use lib.IntN.{ℤ, pos}
 use lib.ListN.{length, getD, set}
-use Rattle.integer.specs.Sizes.{mul-size}
+use mir.Syntax.{w64}
+use mir.Val.{toZ}
+use mir.Facts.{toZ-pos}
+use Rattle.integer.specs.Sums.{once-more}
 use Rattle.kinds.specs.declared.Kind.the-variants as kind
 use Rattle.plan.specs.Cases.{Items, itemsOf, roomOf}
 use Rattle.rules.specs.Held.{counted}
@@ -16,7 +19,7 @@ use Rattle.meaning.specs.Given.{facts}
 use Rattle.verdict.specs.Rounds.{firstOf, loopOf}
 use Rattle.verdict.specs.Forward.{ways, drift, repeats, base}
 use Rattle.forward.specs.Tables.{vecOf}
-use Rattle.forward.specs.Entries.{first-at, values-at, Has, has, values-same, of-one, of-two, both-small, Begun, begin, go-on, finish}
+use Rattle.forward.specs.Entries.{first-at, values-at, Has, has, values-same, sums-small, sums-are, Begun, begin, go-on, finish}
 use Rattle.forward.specs.Sums.{roundsBefore, base-is, rounds-done, rounds-kept}
 use Rattle.forward.specs.Sizes.{ways-size, times-size, rounds-before-size}
 use Rattle.forward.specs.Stretches.{first-below, mark-is, end-is, end-in}
@@ -73,16 +76,17 @@ module _ (i : tie.In-loop Inv-loop μ-loop) where
       (values-at (length (x .places)) (λ j n. drift x j (firstOf (x .places) n)) (t .pre .3) p (record { at = [] })
       (omega (arith, i .loop-test .taken, counted (t .args .t1) (t .pre .0) kind.Place)))
 
-filled : (c : tie.After-plus Inv-loop μ-loop) →
+filled : (c : tie.After-more Inv-loop μ-loop) →
     let i = c .before .before .before in
-    c .plus .result ≡ vecOf (λ j. base (x i) zeros j (p i))
+    c .more .result ≡ vecOf (λ j. base (x i) zeros j (p i))
 filled c =
     let i = c .before .before .before in
-    of-two (ways-have i) (rounds-have i) _+ℤ_ (c .plus .ensures) ∙ values-same _ _ (λ j h. sym (base-is (x i) j (p i)))
+    sums-are (pos 1) refl (ways-have i) (rounds-have i) (c .more .ensures)
+    (λ j. once-more (ways (x i) j (p i)) (roundsBefore (x i) j (p i)) ∙ sym (base-is (x i) j (p i)))
 
 -- the turn of the loop that n names, and where the stretch ends
 module _ (c : tie.After-stretch Inv-loop μ-loop) where
-  abbrev a : tie.After-plus Inv-loop μ-loop
+  abbrev a : tie.After-more Inv-loop μ-loop
   a = c .before .before .before
 
   abbrev n : tie.In-loop Inv-loop μ-loop
@@ -91,7 +95,7 @@ module _ (c : tie.After-stretch Inv-loop μ-loop) where
   ends : read n + c .stretch .result ≡ q n + stretch (loopOf (x n .places) (p n))
   ends = end-is (t n .pre .0) (p n) (below n) (read-is n) (c .stretch .ensures)
 
-  next : Begun (base (x n) zeros) (set (l n .loop .at) (p n) (a .plus .result)) (p n + 1)
+  next : Begun (base (x n) zeros) (set (l n .loop .at) (p n) (a .more .result)) (p n + 1)
   next = go-on (l n .loop .inv .2) (filled a) (below n)
 
 module _ (c : tie.After-repeats Inv-loop μ-loop) where
@@ -102,17 +106,9 @@ module _ (c : tie.After-repeats Inv-loop μ-loop) where
   abbrev times : ℕ
   times = repeats (loopOf (x e .places) (p e))
 
-  times-are : c .repeats .result ≡ times
-  times-are = c .repeats .ensures ∙ ap repeats (mark-is (t e .pre .0) (p e) (below e) (read-is e))
-
-added-have : (c : tie.After-times Inv-loop μ-loop) →
-    let r = c .before in
-    Has (c .times .result) (λ j. pos (times r) *ℤ drift (x (e r)) j (q (e r)))
-added-have c =
-    let r = c .before in
-    has _
-    (of-one (drift-has (e r)) (λ z. pos (r .repeats .result) *ℤ z) (c .times .ensures)
-    ∙ ap (λ m. vecOf (λ j. pos m *ℤ drift (x (e r)) j (q (e r)))) (times-are r))
+  times-are : toZ w64 (c .repeats .result) ≡ pos times
+  times-are =
+      toZ-pos w64 (omega arith) ∙ ap pos (c .repeats .ensures ∙ ap repeats (mark-is (t e .pre .0) (p e) (below e) (read-is e)))
 
 zero-requires : tie.Need-zero-requires Inv-loop μ-loop
 zero-requires c κs = search needs
@@ -136,12 +132,12 @@ mul-y c = record { fits = omega (arith, below (c .before)) }
 element-copy-out-y : tie.Need-element-copy-out-y Inv-loop μ-loop
 element-copy-out-y c = below (c .before)
 
-plus-requires : tie.Need-plus-requires Inv-loop μ-loop
-plus-requires c κs =
+more-requires : tie.Need-more-requires Inv-loop μ-loop
+more-requires c κs =
     let i = c .before .before in
     let h = below i in
     let f = facts _ (t i .pre .0) in
-    both-small (ways-have i) (rounds-have i) (λ j. omega (arith, ways-size f j (p i), rounds-before-size f j (p i) (omega arith)))
+    sums-small (pos 1) refl (ways-have i) (rounds-have i) (λ j. omega (arith, ways-size f j (p i), rounds-before-size f j (p i) (omega arith)))
 
 mul-at : tie.Need-mul-at Inv-loop μ-loop
 mul-at c = record { fits = omega (arith, below (c .before .before .before)) }
@@ -175,30 +171,27 @@ add-if1 c =
 repeats-requires : tie.Need-repeats-requires Inv-loop μ-loop
 repeats-requires c κs = search needs
 
-times-requires : tie.Need-times-requires Inv-loop μ-loop
-times-requires c κs =
-    let i = e c in
-    λ j h. rw (drift-has i .each j h, times-are c) (omega (arith, times-size (facts _ (t i .pre .0)) j (p i) (below i)))
+cast-more : tie.Need-cast-more Inv-loop μ-loop
+cast-more c = search needs
 
-plus-requires-2 : tie.Need-plus-requires-2 Inv-loop μ-loop
-plus-requires-2 c κs =
-    let r = c .before in
-    let i = e r in
+more-requires-2 : tie.Need-more-requires-2 Inv-loop μ-loop
+more-requires-2 c κs =
+    let i = e c in
     let h = below i in
     let f = facts _ (t i .pre .0) in
-    both-small (rounds-have i) (added-have c)
-    (λ j. omega (arith, rounds-before-size f j (p i) (omega arith), mul-size (pos (times r)) (drift (x i) j (q i)), times-size f j (p i) h))
+    sums-small (pos (times c)) (times-are c) (rounds-have i) (drift-has i)
+    (λ j. omega (arith, rounds-before-size f j (p i) (omega arith), times-size f j (p i) h))
 
 loop-less : tie.Need-loop-less Inv-loop μ-loop
 loop-less c = search needs
 
 loop-again : tie.Need-loop-again Inv-loop μ-loop
 loop-again c =
-    let s = c .before .before .before .before in
+    let r = c .before in
+    let s = r .before .before in
     let i = n s in (
       omega arith,
-      of-two (rounds-have i) (added-have (c .before)) _+ℤ_ (c .plus2 .ensures)
-          ∙ values-same _ _ (λ j h. sym (rounds-done (x i) j (p i) (omega (arith, ends s)))),
+      sums-are _ (times-are r) (rounds-have i) (drift-has i) (c .more2 .ensures) (λ j. sym (rounds-done (x i) j (p i) (omega (arith, ends s)))),
       next s,
     )
 
@@ -231,7 +224,7 @@ bases-spec =
     element-copy-out-x
     mul-y
     element-copy-out-y
-    plus-requires
+    more-requires
     mul-at
     array-set-from-at
     element-copy-out-q
@@ -242,8 +235,8 @@ bases-spec =
     stretch-requires
     add-if1
     repeats-requires
-    times-requires
-    plus-requires-2
+    cast-more
+    more-requires-2
     loop-less
     loop-again
     loop-less-2

@@ -1,12 +1,13 @@
 -- The loop fills the drifts: from the sums of the ways at both ends of the stretch, and the back move. Assumes nothing.
 use borrow.Author.Needs.{needs}
-use mathlib.Core.Path.{_≡_, sym, _∙_, ap}
+use mathlib.Core.Path.{_≡_, refl, sym, _∙_, ap}
 use mathlib.Core.Logic.{⊎-elim}
 use mathlib.Core.List.{[]}
 use Prim.Native.Nat.{ℕ, _+_, _-_, _≤_, _<_}
 use native.Mathlib.Omega.{arith}
-use lib.IntN.{ℤ, _-ℤ_}
+use lib.IntN.{ℤ, negsuc}
 use lib.ListN.{getD}
+use Rattle.integer.specs.Sums.{once-less}
 use Rattle.kinds.specs.declared.Kind.the-variants as kind
 use Rattle.items.specs.declared.Ref.{Ref}
 use Rattle.plan.specs.Cases.{Items, itemsOf, roomOf}
@@ -17,7 +18,7 @@ use Rattle.verdict.specs.Rounds.{firstOf, loopOf}
 use Rattle.verdict.specs.Forward.{ways, drift}
 use Rattle.counters.specs.declared.Counters.{Counters}
 use Rattle.forward.specs.Tables.{vecOf, slotOf}
-use Rattle.forward.specs.Entries.{first-at, values-at, Has, has, of-two, both-small, Begun, begin, go-on, finish}
+use Rattle.forward.specs.Entries.{first-at, values-at, Has, has, sums-small, sums-are, Begun, begin, go-on, finish}
 use Rattle.forward.specs.Moves.{more, more-small, no-more}
 use Rattle.forward.specs.Sums.{waysWithin}
 use Rattle.forward.specs.Sizes.{ends-size, stretch-size}
@@ -97,8 +98,8 @@ module _ (c : tie.After-back-slot Inv-loop μ-loop) where
   abbrev within : ℕ → ℤ
   within j = waysWithin (x (i b)) j (q (i b))
 
-  within-is : c .before .minus .result ≡ vecOf within
-  within-is = of-two (last-has b) (first-has b) _-ℤ_ (c .before .minus .ensures)
+  within-is : c .before .more .result ≡ vecOf within
+  within-is = sums-are (negsuc 0) refl (last-has b) (first-has b) {s = within} (c .before .more .ensures) (λ j. rw once-less)
 
 filled : (c : tie.Joined1 Inv-loop μ-loop) →
     let j = i (b (c .before)) in
@@ -151,11 +152,11 @@ mul-y c = record { fits = omega (arith, read-below (c .before .before .before .b
 element-copy-out-y : tie.Need-element-copy-out-y Inv-loop μ-loop
 element-copy-out-y c = read-below (c .before .before .before .before)
 
-minus-requires : tie.Need-minus-requires Inv-loop μ-loop
-minus-requires c κs =
+more-requires : tie.Need-more-requires Inv-loop μ-loop
+more-requires c κs =
     let b = c .before .before in
     let k = i b in
-    both-small (last-has b) (first-has b)
+    sums-small (negsuc 0) refl (last-has b) (first-has b)
     (λ j. omega (arith, ends-size (facts _ (t k .pre .0)) j (q k) (omega (arith, read-below k, read-is k))))
 
 back-slot-requires : tie.Need-back-slot-requires Inv-loop μ-loop
@@ -170,8 +171,8 @@ element-copy-out-m c = search needs
 widened-requires : tie.Need-widened-requires Inv-loop μ-loop
 widened-requires c κs = search needs
 
-plus-requires : tie.Need-plus-requires Inv-loop μ-loop
-plus-requires c κs =
+more-requires-2 : tie.Need-more-requires-2 Inv-loop μ-loop
+more-requires-2 c κs =
     let a = c .before .before .before .before in
     let k = i (b a) in
     more-small (t k .pre .0) (back a) (slot-is a) (within a) (within-is a) _ (c .before .before .before .if1 .taken) (c .widened .ensures)
@@ -220,12 +221,12 @@ drifts-spec =
     element-copy-out-x
     mul-y
     element-copy-out-y
-    minus-requires
+    more-requires
     back-slot-requires
     mul-m
     element-copy-out-m
     widened-requires
-    plus-requires
+    more-requires-2
     mul-at
     array-set-from-at
     add-p

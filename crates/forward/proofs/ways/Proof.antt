@@ -99,8 +99,8 @@ element-copy-out-m c = search needs
 widened-requires : tie.Need-widened-requires Inv-loop μ-loop
 widened-requires c κs = search needs
 
-plus-requires : tie.Need-plus-requires Inv-loop μ-loop
-plus-requires c κs =
+more-requires : tie.Need-more-requires Inv-loop μ-loop
+more-requires c κs =
     let b = c .before .before .before .before in
     more-small (sound b) (into b) (slot-is b) (before b) (l b .loop .inv .1) _ (c .before .before .before .if1 .taken) (c .widened .ensures)
     (λ j. omega (arith, before-size (facts (k b) (sound b)) j (p b)))
@@ -146,7 +146,7 @@ ways-spec =
     mul-m
     element-copy-out-m
     widened-requires
-    plus-requires
+    more-requires
     mul-at
     array-set-from-at
     add-p
