@@ -1,35 +1,25 @@
 -- A guard in the rounds in which a way is taken, by the counters that the code reads, and that its sums fit. Assumes nothing.
-use mathlib.Core.Path.{_≡_}
-use mathlib.Core.Bool.{Bool, cond}
+use mathlib.Core.Path.{_≡_, ap}
 use Prim.Native.Nat.{ℕ, _≤_, _<_}
 use native.Mathlib.Omega.{arith}
 use lib.Dec.{eqb}
-use lib.IntN.{pos, _+ℤ_}
 use Rattle.integer.specs.Tests.{cond-by}
 use Rattle.kinds.specs.declared.Kind.the-variants as kind
 use Rattle.items.specs.declared.Guard.{Guard}
 use Rattle.plan.specs.Cases.{Items, roomOf}
 use Rattle.rules.specs.Rules.{markAt}
-use Rattle.meaning.specs.Run.{Way, sum, guardAt}
+use Rattle.meaning.specs.Run.{Way, guardAt}
 use Rattle.meaning.specs.Judged.{zeros, Test}
 use Rattle.meaning.specs.Facts.{Facts}
 use Rattle.verdict.specs.declared.Rounds.{Rounds}
 use Rattle.verdict.specs.declared.Rounds.the-variants as rounds
-use Rattle.verdict.specs.Rounds.{firstOf, roundsOf, later, roundsBy, through}
+use Rattle.verdict.specs.Rounds.{firstOf, roundsOf, later, roundsBy}
 use Rattle.verdict.specs.Verdict.{isAlways, passes}
 use Rattle.lines.specs.Last.{lastOf}
 use Rattle.counters.specs.declared.Counters.{Counters}
-use Rattle.counters.specs.Vectors.{at}
 use Rattle.best.specs.Bounds.{mostRounds}
 use Rattle.forward.specs.Tables.{vecOf}
-use Rattle.marks.specs.Sums.{mark-few, first, round, SumsFit, sums-fit, sums-are}
-
--- it is met in all these rounds, where the counters are those of the base in the first round of the place, and each round adds the drift
-unfoldable pub isMet : Guard → Counters → Counters → Bool → Rounds → Bool
-isMet g base drift back r =
-    let a = sum (g .coefficients .at) (at base) in
-    let d = sum (g .coefficients .at) (at drift) in
-    isAlways (through (a +ℤ cond back d (pos 0)) d (g .bound) r)
+use Rattle.marks.specs.Sums.{mark-few, first, round, SumsFit, throughBy, sums-fit, sums-are}
 
 -- ---- the rounds of a way
 
@@ -63,8 +53,5 @@ module _ {x : Items} (f : Facts x) (t : Test) where
     pub test-fits : p < roomOf kind.Place → SumsFit g u v r
     test-fits h = rw (a, b, d, e) (sums-fit f (t .guard) p (roundsBy (x .places) w) rounds-few h)
 
-    pub test-is : isMet g u v (w .back) r ≡ passes x zeros t
-    unfolding isMet
-    test-is =
-        rw (a, b, d, e)
-        (sums-are f (t .guard) p (λ a d. isAlways (through (a +ℤ cond (w .back) d (pos 0)) d (k .bound) (roundsBy (x .places) w))))
+    pub test-is : isAlways (throughBy g u v (w .back) r) ≡ passes x zeros t
+    test-is = rw (a, b, d, e) (ap isAlways (sums-are f (t .guard) p (w .back) (roundsBy (x .places) w)))

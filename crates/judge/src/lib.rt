@@ -2,9 +2,7 @@
 ghost use mathlib.Core.Path.{_≡_};
 ghost use mathlib.Core.Bool.{cond, not, _&&_};
 ghost use lib.Dec.{eqb, ltb};
-ghost use lib.IntN.{pos, _+ℤ_};
 ghost use Prim.Native.Nat.{_+_, _-_, _≤_, _<_, _^_};
-ghost use Rattle.integer.specs.Sizes.{size};
 ghost use Rattle.kinds.specs.declared.Kind.the-variants as kind;
 ghost use Rattle.plan.specs.Cases.{itemsOf, roomOf};
 ghost use Rattle.plan.specs.Taking.{isClosed};
@@ -13,12 +11,11 @@ ghost use Rattle.meaning.specs.Run.{stretch, backOf};
 ghost use Rattle.meaning.specs.Judged.{zeros, waysOf, testsOf};
 ghost use Rattle.verdict.specs.declared.Rounds.the-variants as rounds;
 ghost use Rattle.verdict.specs.Rounds.{roundsOf, later};
-ghost use Rattle.verdict.specs.Verdict.{firstNot, connects, passes, numberOf, verdict};
+ghost use Rattle.verdict.specs.Verdict.{firstNot, connects, passes, isAlways, numberOf, verdict};
 ghost use Rattle.forward.specs.Tables.{tablesOf};
-ghost use Rattle.marks.specs.Sums.{SumsFit};
+ghost use Rattle.marks.specs.Sums.{SumsFit, throughBy};
 ghost use Rattle.judge.specs.Told.{toldWay, toldTest, isNamed, given};
 ghost use Rattle.judge.specs.Tests.{guardBy};
-ghost use Rattle.judge.specs.Sums.{isMet};
 ghost use Rattle.judge.specs.Stages.{held};
 use counters::Counters;
 use forward::Tables;
@@ -166,36 +163,14 @@ fn rounds_by(back: bool, begins: bool, own: LoopMark, around: LoopMark) -> Round
     lines::rounds_of(around)
 }
 
-// The sum of a guard in the first round in which a way is taken: one round later for a back move.
-fn first_sum(a: i64, d: i64, back: bool) -> i64
-    requires { ⌜ size a + size d < 2 ^ 63 ⌝ }
-    ensures { λ r. ⌜ r ≡ a +ℤ cond back d (pos 0) ⌝ }
-{
-    if back {
-        return a + d;
-    }
-    a
-}
-
-// Whether a guard is met in all these rounds of a place, where its counters are those of the base in the first round, and each round adds the drift.
-fn met(g: Guard, base: Counters, drift: Counters, back: bool, rounds: Rounds) -> bool
-    requires { ⌜ SumsFit g base drift rounds ⌝ }
-    ensures { λ t. ⌜ t ≡ isMet g base drift back rounds ⌝ }
-{
-    let a = counters::dot(g.coefficients, base);
-    let d = counters::dot(g.coefficients, drift);
-    let first = first_sum(a, d, back);
-    lines::is_always(lines::through(first, d, g.bound as i64, rounds))
-}
-
 // Whether there is a guard and it isn't met.
 fn misses(q: Ref, g: Guard, base: Counters, drift: Counters, back: bool, rounds: Rounds) -> bool
     requires { ⌜ SumsFit g base drift rounds ⌝ }
-    ensures { λ t. ⌜ t ≡ (isNamed q && not (isMet g base drift back rounds)) ⌝ }
+    ensures { λ t. ⌜ t ≡ (isNamed q && not (isAlways (throughBy g base drift back rounds))) ⌝ }
 {
     match q {
         Ref::None => false,
-        Ref::At(_) => !met(g, base, drift, back, rounds),
+        Ref::At(_) => !lines::is_always(marks::guard_through(g, base, drift, back, rounds)),
     }
 }
 

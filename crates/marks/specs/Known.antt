@@ -51,7 +51,7 @@ module _ {c : Case} (s : Sound c) {f : Firsts} (e : f ≡ firstsOf (itemsOf c .p
   pub first-within : q < roomOf kind.Place
   first-within = first-below s p h first-is
 
-  pub stretch-is : stretch (place .mark) ≡ stretch (loopOf (x .places) p)
+  stretch-is : stretch (place .mark) ≡ stretch (loopOf (x .places) p)
   stretch-is = ap stretch (mark-is s p h first-is)
 
   pub rounds-are : roundsOf (place .mark) ≡ roundsOf (loopOf (x .places) p)

@@ -35,11 +35,11 @@ module _ {A : Type 0} (ok : A → Bool) (a : ℕ → A) where
 -- ---- sentence by sentence
 
 -- sentence i at place p
-abbrev pub markNo : ℕ → ℕ → Mark
+abbrev markNo : ℕ → ℕ → Mark
 markNo i p = record { sentence = i; place = p }
 
 -- sentence i at all places
-abbrev pub rowAt : Items → ℕ → List Mark
+abbrev rowAt : Items → ℕ → List Mark
 rowAt x i = map (markNo i) (from 0 (length (x .places)))
 
 module _ (x : Items) where

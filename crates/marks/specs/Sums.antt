@@ -1,10 +1,11 @@
 -- The sums of a guard at a place: they fit, and are those of the definition. Assumes nothing.
-use mathlib.Core.Path.{_≡_, refl, ap₂}
+use mathlib.Core.Path.{_≡_, refl, _∙_, ap, ap₂}
+use mathlib.Core.Bool.{Bool, false, cond}
 use mathlib.Core.List.{List, [], _∷_}
 use Prim.Native.Nat.{ℕ, suc, _+_, _*_, _≤_, _<_, _^_}
 use native.Mathlib.Nat.{mul-le-mul}
 use native.Mathlib.Omega.{arith}
-use lib.IntN.{ℤ, _*ℤ_}
+use lib.IntN.{ℤ, pos, _+ℤ_, _*ℤ_, +ℤ-idr}
 use Rattle.integer.specs.Sizes.{size, add-size, mul-size}
 use Rattle.kinds.specs.declared.Kind.the-variants as kind
 use Rattle.items.specs.declared.LoopMark.{LoopMark}
@@ -16,6 +17,7 @@ use Rattle.meaning.specs.Run.{sum, guardAt}
 use Rattle.meaning.specs.Judged.{zeros}
 use Rattle.meaning.specs.Facts.{Facts}
 use Rattle.verdict.specs.declared.Rounds.{Rounds}
+use Rattle.verdict.specs.declared.Throughout.{Throughout}
 use Rattle.verdict.specs.Rounds.{firstOf, loopOf, roundsOf, through}
 use Rattle.verdict.specs.Forward.{drift, repeats, base}
 use Rattle.verdict.specs.Verdict.{firstSum, roundSum, guardThrough}
@@ -65,6 +67,13 @@ pub record Known (x : Items) (g p : ℕ) (k : Guard) (u v : Counters) (r : Round
 abbrev pub SumsFit : Guard → Counters → Counters → Rounds → Type 0
 SumsFit g u v r = sizes (g .coefficients .at) (at u) + (lastOf r + 1) * sizes (g .coefficients .at) (at v) < 2 ^ 63
 
+-- the guard over these rounds, where its counters are u in the first round of the place, and each round adds v; later: from the second round on
+unfoldable pub throughBy : Guard → Counters → Counters → Bool → Rounds → Throughout
+throughBy g u v later r =
+    let a = sum (g .coefficients .at) (at u) in
+    let d = sum (g .coefficients .at) (at v) in
+    through (a +ℤ cond later d (pos 0)) d (g .bound) r
+
 -- guard g at place p
 module _ {x : Items} (f : Facts x) (g p : ℕ) where
   -- the guard, and its counters as the tables have them
@@ -93,13 +102,19 @@ module _ {x : Items} (f : Facts x) (g p : ℕ) where
       (drift-size f j (firstOf (x .places) p) (omega (arith, first-le (x .places) p)))) in
       omega (arith, c .0, a, b, mul-le-mul k b)
 
-  -- what is made of its two sums
-  pub sums-are : {B : Type 0} (op : ℤ → ℤ → B) → op (sum l (at u)) (sum l (at v)) ≡ op (firstSum x zeros guard p) (roundSum x guard p)
-  sums-are op = let h = f .coefficients g .0 in ap₂ op (sum-is u (first x p) refl l h) (sum-is v (round x p) refl l h)
+  pub sums-are : (later : Bool) (r : Rounds) → throughBy guard u v later r
+      ≡ through (firstSum x zeros guard p +ℤ cond later (roundSum x guard p) (pos 0)) (roundSum x guard p) (guard .bound) r
+  unfolding throughBy
+  sums-are later r =
+      let h = f .coefficients g .0 in
+      ap₂ (λ a d. through (a +ℤ cond later d (pos 0)) d (guard .bound) r) (sum-is u (first x p) refl l h) (sum-is v (round x p) refl l h)
 
 module _ {x : Items} (f : Facts x) {g p : ℕ} {k : Guard} {u v : Counters} {r : Rounds} (y : Known x g p k u v r) where
   pub guard-fits : p < roomOf kind.Place → SumsFit k u v r
   guard-fits h = rw (y .guard, y .base, y .drift, y .rounds) (sums-fit f g p (times x p) (mark-few f (firstOf (x .places) p)) h)
 
-  pub guard-is : through (sum (k .coefficients .at) (at u)) (sum (k .coefficients .at) (at v)) (k .bound) r ≡ guardThrough x zeros (guardAt (x .guards) g) p
-  guard-is = rw (y .guard, y .base, y .drift, y .rounds) (sums-are f g p (λ a d. through a d (guardAt (x .guards) g .bound) (times x p)))
+  pub guard-is : throughBy k u v false r ≡ guardThrough x zeros (guardAt (x .guards) g) p
+  guard-is =
+      let e = +ℤ-idr (firstSum x zeros (guardAt (x .guards) g) p) in
+      rw (y .guard, y .base, y .drift, y .rounds) (sums-are f g p false (times x p))
+      ∙ ap (λ a. through a (roundSum x (guardAt (x .guards) g) p) (guardAt (x .guards) g .bound) (times x p)) e

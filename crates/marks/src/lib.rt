@@ -1,24 +1,24 @@
 // The marks of a sentence against what it is over the rounds of each place: the first place at which it is marked wrongly.
 ghost use mathlib.Core.Path.{_≡_};
 ghost use mathlib.Core.Bool.{cond};
-ghost use Prim.Native.Nat.{suc, _+_, _*_, _≤_, _<_, _^_};
+ghost use Prim.Native.Nat.{suc, _+_, _≤_, _<_, _^_};
 ghost use lib.Dec.{leb};
+ghost use lib.IntN.{pos, _+ℤ_};
+ghost use Rattle.integer.specs.Sizes.{size};
 ghost use Rattle.kinds.specs.declared.Kind.the-variants as kind;
 ghost use Rattle.plan.specs.Cases.{itemsOf, roomOf};
 ghost use Rattle.rules.specs.Sound.{Sound};
-ghost use Rattle.meaning.specs.Run.{sum, guardAt, stretch};
+ghost use Rattle.meaning.specs.Run.{guardAt, stretch};
 ghost use Rattle.meaning.specs.Truth.{bit};
 ghost use Rattle.meaning.specs.Judged.{zeros, marked, marksOf};
 ghost use Rattle.meaning.specs.Counting.{worth};
 ghost use Rattle.meaning.specs.Below.{labelOf};
-ghost use Rattle.verdict.specs.Rounds.{through, roundsOf, flag};
+ghost use Rattle.verdict.specs.Rounds.{roundsOf, flag};
 ghost use Rattle.verdict.specs.Verdict.{firstNot, guardThrough, nextBy, nextThrough, isAlways, isNever, right};
-ghost use Rattle.lines.specs.Last.{lastOf};
-ghost use Rattle.counters.specs.Vectors.{at};
-ghost use Rattle.counters.specs.Bounds.{sizes};
 ghost use Rattle.forward.specs.Tables.{firstsOf, tablesOf};
 ghost use Rattle.marks.specs.Wrong.{wrongIn, sameAlways, simpleThrough, untilsOf, stepsOf, toldMark};
 ghost use Rattle.marks.specs.Ranged.{Mild};
+ghost use Rattle.marks.specs.Sums.{SumsFit, throughBy};
 use best::Steps;
 use counters::Counters;
 use forward::Firsts;
@@ -76,14 +76,33 @@ fn guard_at(c: Case, g: u8) -> Guard
     }
 }
 
-// A guard over rounds, where its counters are those of the base at first, and each round adds the drift.
-fn guard_through(g: Guard, base: Counters, drift: Counters, rounds: Rounds) -> Throughout
-    requires { ⌜ sizes (g .coefficients .at) (at base) + (lastOf rounds + 1) * sizes (g .coefficients .at) (at drift) < 2 ^ 63 ⌝ }
-    ensures { λ r. ⌜ r ≡ through (sum (g .coefficients .at) (at base)) (sum (g .coefficients .at) (at drift)) (g .bound) rounds ⌝ }
+// The sum of a guard in the first of the rounds: a at first, and one round later d more.
+fn first_sum(a: i64, d: i64, later: bool) -> i64
+    requires { ⌜ size a + size d < 2 ^ 63 ⌝ }
+    ensures { λ r. ⌜ r ≡ a +ℤ cond later d (pos 0) ⌝ }
+{
+    if later {
+        return a + d;
+    }
+    a
+}
+
+// A guard over rounds, where its counters are those of the base in the first round of the place, and each round adds the drift. The rounds are all of the
+// place, or those from the second on.
+pub fn guard_through(
+    g: Guard,
+    base: Counters,
+    drift: Counters,
+    later: bool,
+    rounds: Rounds,
+) -> Throughout
+    requires { ⌜ SumsFit g base drift rounds ⌝ }
+    ensures { λ r. ⌜ r ≡ throughBy g base drift later rounds ⌝ }
 {
     let a = counters::dot(g.coefficients, base);
     let d = counters::dot(g.coefficients, drift);
-    lines::through(a, d, g.bound as i64, rounds)
+    let first = first_sum(a, d, later);
+    lines::through(first, d, g.bound as i64, rounds)
 }
 
 // The first place at which sentence i, guard g, is marked wrongly.
@@ -104,7 +123,7 @@ fn guard_wrong(c: Case, t: Tables, i: u8, g: u8) -> usize
         let base = bases.at[p];
         let drift = drifts.at[p];
         let place = c.places[p];
-        let t = guard_through(guard, base, drift, lines::rounds_of(mark));
+        let t = guard_through(guard, base, drift, false, lines::rounds_of(mark));
         if is_right(t, bit(place.marks, i)) {
             p = p + 1;
         } else {
