@@ -2,16 +2,18 @@
 -- other fields of its record. Assumes nothing.
 use mathlib.Core.Path.{_≡_, refl, _∙_, sym, ap, ap₂}
 use mathlib.Core.List.{List, [], _∷_, _++_, append-assoc}
-use mathlib.Core.Bool.{cond}
-use Prim.Native.Nat.{ℕ, zero, suc, _+_, _*_, _-_, _<_}
+use mathlib.Core.Bool.{false, cond}
+use Prim.Native.Nat.{ℕ, zero, suc, _+_, _*_, _-_, _≤_, _<_}
 use native.Mathlib.Omega.{arith}
+use borrow.Author.Tests.{le-ltb}
 use lib.Dec.{eqb, ltb, lit<}
 use lib.ListN.{length, getD, take, drop, length-append, length-drop, take-append-drop, List·getD-append}
 use lib.Seq.{getD-drop, getD-append-add, length-take-le, take-append-le, drop-append-le, take-append-add, drop-append-add, take-at, drop-at}
+use Rattle.integer.specs.Tab.{tab}
 use Rattle.record.specs.declared.Content.{Content}
 use Rattle.record.specs.declared.Field.{Field}
 use Rattle.record.specs.Spelling.{contentOf}
-use Rattle.record.specs.Layout.{width, recordLength, fieldAt, recordOf}
+use Rattle.record.specs.Layout.{fields, width, recordLength, fieldAt, recordOf}
 use Rattle.kinds.specs.Kinds.{kindOf}
 use Rattle.faults.specs.declared.Answer.the-variants.{NotARecord, NoLineFeed}
 use Rattle.faults.specs.declared.Head.the-variants.{Refused}
@@ -59,9 +61,14 @@ cut-on (suc i) n (b ∷ p) bs l =
 
 -- ---- the fields of a record
 
+-- two rows are the same where their elements are
+tab-same : {A : Type 0} (n i : ℕ) (g h : ℕ → A) → ((k : ℕ) → i ≤ k → g k ≡ h k) → tab n i g ≡ tab n i h
+tab-same zero i g h e = refl
+tab-same (suc n) i g h e = λ t. e i (omega arith) t ∷ tab-same n (i + 1) g h (λ k l. e k (omega arith)) t
+
 -- a row of fields, by what its rounds field says
 abbrev pub rowWith : (ℕ → Field) → Content → List Field
-rowWith g c = g 0 ∷ g 1 ∷ g 2 ∷ g 3 ∷ record { content = c } ∷ g 5 ∷ g 6 ∷ g 7 ∷ []
+rowWith g c = g 0 ∷ g 1 ∷ g 2 ∷ g 3 ∷ record { content = c } ∷ tab (fields - 5) 5 g
 
 module _ (head tail : List ℕ) where
   -- field k, where it is not the rounds field
@@ -83,6 +90,12 @@ module _ (head tail : List ℕ) where
         (drop-past head (f ++ tail) (1 + (5 + k) * width) (width + k * width) (omega arith)
         ∙ drop-past f tail (width + k * width) (k * width) (omega arith))
 
+    after : (k : ℕ) → 5 ≤ k → fieldAt (head ++ (f ++ tail)) k ≡ other k
+    after k h =
+        let e : k ≡ 5 + (k - 5) = omega arith in
+        let t : ltb k 4 ≡ false = le-ltb k 4 (omega arith) in
+        ap (fieldAt (head ++ (f ++ tail))) e ∙ late (k - 5) ∙ rw t refl
+
     own : fieldAt (head ++ (f ++ tail)) 4 ≡ record { content = contentOf f }
     unfolding fieldAt
     own =
@@ -92,9 +105,8 @@ module _ (head tail : List ℕ) where
     row-is : recordOf (head ++ (f ++ tail)) ≡ record { fields = rowWith other (contentOf f) }
     unfolding recordOf
     row-is =
-        λ i. record {
-          fields = early 0 (lit< tt) i ∷ early 1 (lit< tt) i ∷ early 2 (lit< tt) i ∷ early 3 (lit< tt) i ∷ own i ∷ late 0 i ∷ late 1 i ∷ late 2 i ∷ [];
-        }
+        let past = tab-same (fields - 5) 5 (fieldAt (head ++ (f ++ tail))) other after in
+        λ i. record { fields = early 0 (lit< tt) i ∷ early 1 (lit< tt) i ∷ early 2 (lit< tt) i ∷ early 3 (lit< tt) i ∷ own i ∷ past i }
 
     -- its length, its last byte and its letter are the same for all
     head-is : headOf (head ++ (f ++ tail)) ≡ cond (eqb (roundsAt + (width + length tail)) recordLength)

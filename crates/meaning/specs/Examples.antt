@@ -2,7 +2,9 @@
 use mathlib.Core.Path.{_≡_, refl, _∙_, ap, ap₂}
 use mathlib.Core.List.{[], _∷_, map}
 use mathlib.Core.Bool.{Bool, true, false}
-use Prim.Native.Nat.{ℕ, zero, suc, _<_}
+use Prim.Native.Nat.{ℕ, zero, suc, _-_, _<_}
+use lib.ListN.{replicate}
+use Rattle.kinds.specs.Table as table
 use native.Mathlib.Nat.{one-mul}
 use native.Mathlib.Numerals.{add-one}
 use native.Mathlib.Omega.{arith}
@@ -40,7 +42,7 @@ use Rattle.meaning.specs.Unrolled.{every, connected, stays, returns}
 
 -- a number for counter 0, and 0 for the others
 abbrev lone : ℤ → PerCounter
-lone z = record { at = z ∷ pos 0 ∷ pos 0 ∷ pos 0 ∷ [] }
+lone z = record { at = z ∷ replicate (table.counters - 1) (pos 0) }
 
 -- a state with these propositions
 abbrev pub state : ℕ → State

@@ -1,6 +1,6 @@
 -- Every case with the invariant has what the laws of a run need of it. Assumes nothing.
 use mathlib.Core.Path.{_≡_, refl, sym, subst}
-use mathlib.Core.List.{List, [], _∷_, _++_}
+use mathlib.Core.List.{List, [], _∷_, _++_, map}
 use mathlib.Core.Bool.{Bool, true, false}
 use Prim.Native.Nat.{ℕ, zero, suc, _+_, _≤_, _<_}
 use native.Mathlib.Omega.{arith}
@@ -9,19 +9,23 @@ use borrow.Author.Tests.{ltb-false, leb-false}
 use lib.Dec.{ltb, lit<}
 use lib.IntN.{ℤ, pos, negℤ}
 use lib.Signed.{ltZ}
-use lib.ListN.{length, getD, List·getD-eq-default}
+use lib.ListN.{length, getD, replicate, drop, List·getD-eq-default}
 use Rattle.integer.specs.Order.{lt-false}
 use Rattle.integer.specs.Tests.{neither}
 use Rattle.record.specs.declared.Content.{Content}
 use Rattle.record.specs.declared.Content.the-variants.{Number}
 use Rattle.record.specs.declared.Field.{Field}
+use Rattle.record.specs.Layout.{at}
 use Rattle.kinds.specs.declared.Kind.{Kind}
 use Rattle.kinds.specs.declared.Kind.the-variants as kind
 use Rattle.kinds.specs.declared.Counts.{Counts}
+use Rattle.kinds.specs.declared.Sort.{Sort}
 use Rattle.kinds.specs.declared.Sort.the-variants as sort
+use Rattle.kinds.specs.declared.Rule.{Rule}
+use Rattle.kinds.specs.declared.Rule.the-variants as rule
 use Rattle.kinds.specs.Kinds.{countOf}
-use Rattle.kinds.specs.Table.{counters, between, isNumber, neededIf, ruleAt, shapeOf}
-use Rattle.faults.specs.Faults.{beyond, atLeast, notThere}
+use Rattle.kinds.specs.Table.{counters, rangeOf, between, isNumber, neededIf, guardRow, moveRow, inFilled, ruleAt, shapeOf}
+use Rattle.faults.specs.Faults.{beyond, outside, atLeast, notThere}
 use Rattle.items.specs.declared.Ref.{Ref}
 use Rattle.items.specs.declared.Ref.the-variants as ref
 use Rattle.items.specs.declared.Term.{Term}
@@ -32,11 +36,11 @@ use Rattle.items.specs.declared.LoopMark.{LoopMark}
 use Rattle.items.specs.declared.LoopMark.the-variants as mark
 use Rattle.items.specs.declared.Move.{Move}
 use Rattle.items.specs.declared.Place.{Place}
-use Rattle.items.specs.Items.{Item, itemOf, rowOf, reference, guardOf, moveOf, perCounter}
+use Rattle.items.specs.Items.{Item, itemOf, rowOf, integer, reference, guardOf, moveOf, perCounter}
 use Rattle.plan.specs.declared.Case.{Case}
 use Rattle.plan.specs.Cases.{Items, listOf, itemsOf, roomOf, noItem}
 use Rattle.rules.specs.Rules.{countsOf, markAt, lengthOf}
-use Rattle.rules.specs.Sound.{Sound, Fit, There, reach}
+use Rattle.rules.specs.Sound.{shape, Sound, Fit, There, reach}
 use Rattle.rules.specs.Held.{counted, counts-are}
 use Rattle.integer.specs.Sums.{le-in}
 use Rattle.meaning.specs.Run.{stretch, backOf, moveAt, named, guardsOf}
@@ -70,8 +74,18 @@ within n z e =
     let b = neither (ltZ z (negℤ (pos n))) (ltZ (pos n) z) e in
     (le-in (lt-false z (negℤ (pos n)) (b .0)), le-in (lt-false (pos n) z (b .1)))
 
-four : (n : ℕ) {a b c d : ℤ} → InRange n a → InRange n b → InRange n c → InRange n d → All (Within n) (a ∷ b ∷ c ∷ d ∷ [])
-four n p q r s = also (within n _ p) (also (within n _ q) (also (within n _ r) (also (within n _ s) none)))
+-- numbers in a row whose rules are one sort's, from -n to n
+each-within : (n : ℕ) (s : Sort) → rangeOf s ≡ between (negℤ (pos n)) (pos n) → (zs : List ℤ) (us : List Rule) (xs : List Field)
+    → ((j : ℕ) → j < length zs → outside (getD (replicate (length zs) (rule.Needed s) ++ us) j rule.Blank) (at (map integer zs ++ xs) j) ≡ false)
+    → All (Within n) zs
+each-within n s e [] us xs h = none
+each-within n s e (z ∷ zs) us xs h =
+    also (within n z (subst (λ r. beyond r (Number z) ≡ false) e (h 0 (omega arith)))) (each-within n s e zs us xs (λ j l. h (suc j) (omega arith)))
+
+-- zeros
+zeros-within : (n k : ℕ) → InRange n (pos 0) → All (Within n) (replicate k (pos 0))
+zeros-within n zero z = none
+zeros-within n (suc k) z = also (within n (pos 0) z) (zeros-within n k z)
 
 from-to : (l h n : ℕ) → beyond (between (pos l) (pos h)) (Number (pos n)) ≡ false → (l ≤ n) × (n ≤ h)
 from-to l h n e =
@@ -116,16 +130,20 @@ module _ (n : Counts) where
   unfolding rowOf ruleAt shapeOf guardOf perCounter
   guard-has r f t = (
     omega arith,
-    four 999 (f .ranged 0 (lit< tt)) (f .ranged 1 (lit< tt)) (f .ranged 2 (lit< tt)) (f .ranged 3 (lit< tt)),
+    each-within 999 sort.Coefficient refl (guardOf r .coefficients .at) (drop counters (guardRow counters))
+        (drop counters (rowOf kind.Guard (guardOf r))) (λ j h. f .ranged j (omega arith)),
   )
 
   move-has : (r : List Field) → Given kind.Move (moveOf r)
   unfolding rowOf ruleAt shapeOf moveOf perCounter
   move-has r f t =
       let m = moveOf r in
-      let g = names (n .guards) (m .guard1) (either n (isNumber (reference (m .guard2) .content)) kind.Guard _ (t 6 (lit< tt))) in
-      let h = names (n .guards) (m .guard2) (t 7 (lit< tt)) in
-      (all-both g h, four 9999 (f .ranged 2 (lit< tt)) (f .ranged 3 (lit< tt)) (f .ranged 4 (lit< tt)) (f .ranged 5 (lit< tt)))
+      let g = names (n .guards) (m .guard1) (either n (isNumber (reference (m .guard2) .content)) kind.Guard _ (t (2 + counters) (lit< tt))) in
+      let h = names (n .guards) (m .guard2) (t (3 + counters) (lit< tt)) in (
+        all-both g h,
+        each-within 9999 sort.Update refl (m .updates .at)
+            (drop (2 + counters) (moveRow counters (inFilled (shape kind.Move (rowOf kind.Move m) .filled)))) (drop (2 + counters) (rowOf kind.Move m)) (λ j h. f .ranged (suc (suc j)) (omega arith)),
+      )
 
   terms-have : (a b : ℕ) (z : ℤ) (u v : Term) → There n kind.Sentence (rowOf kind.Sentence (record { form = form.Until a b z u v })) →
       TermRefers (n .sentences) u × TermRefers (n .sentences) v
@@ -210,9 +228,9 @@ module _ (c : Case) (s : Sound c) where
 
   adds : (t : Ref) → All (Within 9999) (moveAt (x .moves) t .updates .at)
   unfolding moveAt
-  adds ref.None = four 9999 refl refl refl refl
+  adds ref.None = zeros-within 9999 counters refl
   adds (ref.At t) =
-      by-end (λ (m : Move). All (Within 9999) (m .updates .at)) (x .moves) (noItem kind.Move) t (λ h. held kind.Move t h .1) (four 9999 refl refl refl refl)
+      by-end (λ (m : Move). All (Within 9999) (m .updates .at)) (x .moves) (noItem kind.Move) t (λ h. held kind.Move t h .1) (zeros-within 9999 counters refl)
 
   pub facts : Facts (itemsOf c)
   unfolding moveAt
@@ -240,5 +258,5 @@ module _ (c : Case) (s : Sound c) where
         refers = held kind.Sentence;
         updates = λ t. all-at (Within 9999) _ (pos 0) (adds t) (within 9999 (pos 0) refl);
         coefficients =
-            λ g. by-end (Has (countsOf x) kind.Guard) (x .guards) (noItem kind.Guard) g (held kind.Guard g) (omega arith, four 999 refl refl refl refl);
+            λ g. by-end (Has (countsOf x) kind.Guard) (x .guards) (noItem kind.Guard) g (held kind.Guard g) (omega arith, zeros-within 999 counters refl);
       }

@@ -1,16 +1,16 @@
 -- No number is lost on the way into a case: the fields of an item are the fields of its record again. Assumes nothing.
-use mathlib.Core.Path.{_≡_, refl, sym, ap, subst, _∙_}
+use mathlib.Core.Path.{_≡_, refl, sym, ap, subst, subst₂, _∙_}
 use mathlib.Core.List.{List, [], _∷_, _++_, map}
 use mathlib.Core.Bool.{Bool, true, false, cond, _||_, true≢false}
 use Prim.Native.Nat.{ℕ, zero, suc, _+_, _-_, _%_, _≤_, _<_}
 use native.Mathlib.Nat.{mod-eq-of-lt}
 use native.Mathlib.Omega.{arith}
 use borrow.Author.Tests.{ltb-false}
-use lib.Dec.{lit<}
+use lib.Dec.{lit<, lit≤}
 use lib.IntN.{ℤ, pos, negsuc}
 use lib.Signed.{ltZ, leZ}
-use lib.ListN.{length, getD, drop, replicate}
-use lib.Seq.{ext-getD}
+use lib.ListN.{length, getD, take, drop, replicate, length-drop, List·getD-eq-default}
+use lib.Seq.{ext-getD, getD-drop}
 use Rattle.integer.specs.Order.{zarith}
 use Rattle.integer.specs.Tests.{neither}
 use Rattle.integer.specs.Tab.{tab, length-tab, at-tab}
@@ -24,7 +24,8 @@ use Rattle.kinds.specs.declared.Sort.{Sort}
 use Rattle.kinds.specs.declared.Sort.the-variants as sort
 use Rattle.kinds.specs.declared.Rule.{Rule}
 use Rattle.kinds.specs.declared.Rule.the-variants as rule
-use Rattle.kinds.specs.Table.{natural, isNumber, rangeOf, neededIf, shapeOf, ruleAt}
+use Rattle.kinds.specs.Table as table
+use Rattle.kinds.specs.Table.{counters, natural, isNumber, rangeOf, neededIf, inFilled, shapeOf, ruleAt}
 use Rattle.faults.specs.Faults.{misspelled, missing, extra, outside, beyond}
 use Rattle.items.specs.Items.{itemOf, rowOf, byteOf, integerOf, shortOf, perCounter, refOf, termOf, markOf, stateOf, guardOf, moveOf, formOf, sentenceOf, placeOf, integer, number, blank, reference, termFields, markFields}
 use Rattle.rules.specs.Sound.{shape, Fit}
@@ -64,6 +65,18 @@ blanks : (rs : List Field) → ((j : ℕ) → j < length rs → Meets rule.Blank
 blanks [] h = refl
 blanks (x ∷ rs) h = λ i. blank-again (x .content) (h 0 (omega arith)) i ∷ blanks rs (λ j l. h (suc j) (omega arith)) i
 
+-- the rules of a row
+abbrev rulesOf : Kind → List Field → List Rule
+rulesOf k r = let s = shape k r in table.rowOf counters k (s .form) (inFilled (s .filled))
+
+-- past its rules a row is blank
+rest-again : {k : Kind} {r : List Field} → Fit k r → length r ≡ fields → (n : ℕ) → length (rulesOf k r) ≤ n → replicate (length (drop n r)) blank ≡ drop n r
+unfolding ruleAt shapeOf
+rest-again {k} {r} f l n h =
+    blanks (drop n r) (λ j g.
+    subst₂ Meets (List·getD-eq-default (rulesOf k r) rule.Blank {n = n + j} (omega arith)) (ap (λ x. x .content) (sym (getD-drop n r j blank)))
+    (met f (n + j) (omega (arith, g, length-drop n r))))
+
 -- a number meets the rule of a field that may not be blank
 needed : (b : Bool) (s : Sort) (z : ℤ) → Meets (neededIf b s) (Number z) → Meets (rule.Needed s) (Number z)
 needed true s z m = m
@@ -102,11 +115,13 @@ module _ (s : Sort) where
       λ i. integer (cond (e .0 i) (pos 0) (cond (e .1 i) (pos 0) z))
   short-again w Bad m = absurd (true≢false (m .spelled))
 
-  -- one for each counter
-  counters-again : Short → (a b c d : Content)
-      → Meets (rule.Needed s) a → Meets (rule.Needed s) b → Meets (rule.Needed s) c → Meets (rule.Needed s) d
-      → map (λ x. integer (shortOf (integerOf x))) (a ∷ b ∷ c ∷ d ∷ []) ≡ map field (a ∷ b ∷ c ∷ d ∷ [])
-  counters-again w a b c d m n o p = λ i. short-again w a m i ∷ short-again w b n i ∷ short-again w c o i ∷ short-again w d p i ∷ []
+  -- fields in a row that have this rule, in front of others
+  shorts-again : Short → (rs : List Field) (us : List Rule) (xs : List Field)
+      → ((j : ℕ) → j < length rs → Meets (getD (replicate (length rs) (rule.Needed s) ++ us) j rule.Blank) (at (rs ++ xs) j))
+      → map (λ (r : Field). integer (shortOf (integerOf (r .content)))) rs ≡ rs
+  shorts-again w [] us xs m = refl
+  shorts-again w (r ∷ rs) us xs m =
+      λ i. short-again w (r .content) (m 0 (omega arith)) i ∷ shorts-again w rs us xs (λ j h. m (suc j) (omega arith)) i
 
 -- a reference to an item of kind k, needed or not
 module _ (k : Kind) where
@@ -143,7 +158,7 @@ mark-again : (x y z : Field) (c d e : Content)
     → Meets (neededIf (isNumber d || isNumber e) sort.LoopLength) c
     → Meets (rule.Optional sort.Rounds) d
     → Meets (neededIf (isNumber c) (sort.Reference kind.Move)) e
-    → padded (x ∷ y ∷ z ∷ markFields (markOf c d e)) ≡ x ∷ y ∷ z ∷ field c ∷ field d ∷ field e ∷ blank ∷ blank ∷ []
+    → padded (x ∷ y ∷ z ∷ markFields (markOf c d e)) ≡ x ∷ y ∷ z ∷ field c ∷ field d ∷ field e ∷ replicate (fields - 6) blank
 unfolding markOf
 mark-again x y z Blank Blank Blank m n o = refl
 mark-again x y z Blank Blank (Number e) m n o = absurd (true≢false (m .full))
@@ -152,11 +167,11 @@ mark-again x y z Blank (Number d) e m n o = absurd (true≢false (m .full))
 mark-again x y z Blank Bad e m n o = absurd (true≢false (n .spelled))
 mark-again x y z (Number c) Blank e m n o =
     let p = cut-again sort.LoopLength 255 (refl, refl) (Number c) (needed (isNumber e) _ c m) in
-    λ i. x ∷ y ∷ z ∷ p i ∷ blank ∷ item-again kind.Move e o i ∷ blank ∷ blank ∷ []
+    λ i. x ∷ y ∷ z ∷ p i ∷ blank ∷ item-again kind.Move e o i ∷ replicate (fields - 6) blank
 mark-again x y z (Number c) (Number d) e m n o =
     let p = cut-again sort.LoopLength 255 (refl, refl) (Number c) m in
     let q = natural-again sort.Rounds 1000000 (refl, refl) (Number d) (needed false _ d n) .0 in
-    λ i. x ∷ y ∷ z ∷ p i ∷ q i ∷ item-again kind.Move e o i ∷ blank ∷ blank ∷ []
+    λ i. x ∷ y ∷ z ∷ p i ∷ q i ∷ item-again kind.Move e o i ∷ replicate (fields - 6) blank
 mark-again x y z (Number c) Bad e m n o = absurd (true≢false (n .spelled))
 mark-again x y z Bad d e m n o = absurd (true≢false (m .spelled))
 
@@ -166,74 +181,82 @@ mark-again x y z Bad d e m n o = absurd (true≢false (m .spelled))
 abbrev Again : Kind → List Field → Type 0
 Again k r = Fit k r → rowOf k (itemOf k r) ≡ r
 
-module _ (c2 c3 c4 c5 c6 c7 c8 : Content) where
+module _ (g : ℕ → Content) where
   -- a row of fields, by what its first says
   abbrev row : Content → List Field
-  row c1 = field c1 ∷ field c2 ∷ field c3 ∷ field c4 ∷ field c5 ∷ field c6 ∷ field c7 ∷ field c8 ∷ []
+  row c = field c ∷ tab (fields - 1) 1 (λ j. field (g j))
 
-  state-again : (c1 : Content) → Again kind.State (row c1)
+  state-again : (c : Content) → Again kind.State (row c)
   unfolding ruleAt shapeOf rowOf stateOf
-  state-again c1 f =
-      λ i. cut-again sort.Propositions 65535 (refl, refl) c1 (met f 0 (lit< tt)) i ∷ blanks (drop 1 (row c1)) (λ j h. met f (suc j) (omega arith)) i
+  state-again c f = λ i. cut-again sort.Propositions 65535 (refl, refl) c (met f 0 (lit< tt)) i ∷ rest-again f refl 1 (lit≤ tt) i
 
-  guard-again : (c1 : Content) → Again kind.Guard (row c1)
+  guard-again : (c : Content) → Again kind.Guard (row c)
   unfolding ruleAt shapeOf rowOf guardOf perCounter
-  guard-again c1 f =
-      let p = counters-again sort.Coefficient (refl, refl) c1 c2 c3 c4 (met f 0 (lit< tt)) (met f 1 (lit< tt)) (met f 2 (lit< tt)) (met f 3 (lit< tt)) in
-      let q = blanks (drop 5 (row c1)) (λ j h. met f (suc (suc (suc (suc (suc j))))) (omega arith)) in
-      λ i. p i ++ (integer-again sort.Bound c5 (met f 4 (lit< tt)) i ∷ q i)
+  guard-again c f =
+      let r = row c in
+      let p =
+      shorts-again sort.Coefficient (refl, refl) (take counters r) (drop counters (rulesOf kind.Guard r)) (drop counters r) (λ j h. met f j (omega arith)) in
+      λ i. p i ++ (integer-again sort.Bound (at r counters) (met f counters (lit< tt)) i ∷ rest-again f refl (1 + counters) (lit≤ tt) i)
 
-  move-again : (c1 : Content) → Again kind.Move (row c1)
+  move-again : (c : Content) → Again kind.Move (row c)
   unfolding ruleAt shapeOf rowOf moveOf perCounter
-  move-again c1 f =
-      let p = counters-again sort.Update (refl, refl) c3 c4 c5 c6 (met f 2 (lit< tt)) (met f 3 (lit< tt)) (met f 4 (lit< tt)) (met f 5 (lit< tt)) in
-      let q = reference-again kind.Guard (isNumber c8) c7 (met f 6 (lit< tt)) in
-      let t = reference-again kind.Guard false c8 (met f 7 (lit< tt)) in
-      λ i. item-again kind.State c1 (met f 0 (lit< tt)) i ∷ item-again kind.State c2 (met f 1 (lit< tt)) i ∷ (p i ++ (q i ∷ t i ∷ []))
+  move-again c f =
+      let r = row c in
+      let p =
+      shorts-again sort.Update (refl, refl) (take counters (drop 2 r)) (drop (2 + counters) (rulesOf kind.Move r)) (drop (2 + counters) r)
+      (λ j h. met f (suc (suc j)) (omega arith)) in
+      let q = reference-again kind.Guard (isNumber (g (3 + counters))) (g (2 + counters)) (met f (2 + counters) (lit< tt)) in
+      let t = reference-again kind.Guard false (g (3 + counters)) (met f (3 + counters) (lit< tt)) in
+      λ i.
+      item-again kind.State c (met f 0 (lit< tt)) i
+      ∷ item-again kind.State (g 1) (met f 1 (lit< tt)) i
+      ∷ (p i ++ (q i ∷ t i ∷ rest-again f refl (4 + counters) (lit≤ tt) i))
 
-  place-again : (c1 : Content) → Again kind.Place (row c1)
+  place-again : (c : Content) → Again kind.Place (row c)
   unfolding ruleAt shapeOf rowOf placeOf
-  place-again c1 f =
-      let p = reference-again kind.Move false c2 (met f 1 (lit< tt)) in
-      let q = natural-again sort.Marks 1048575 (refl, refl) c3 (met f 2 (lit< tt)) .0 in
-      let t = blanks (drop 6 (row c1)) (λ j h. met f (suc (suc (suc (suc (suc (suc j)))))) (omega arith)) in
-      mark-again _ _ _ c4 c5 c6 (met f 3 (lit< tt)) (met f 4 (lit< tt)) (met f 5 (lit< tt))
-      ∙ (λ i. item-again kind.State c1 (met f 0 (lit< tt)) i ∷ p i ∷ q i ∷ field c4 ∷ field c5 ∷ field c6 ∷ t i)
+  place-again c f =
+      let p = reference-again kind.Move false (g 1) (met f 1 (lit< tt)) in
+      let q = natural-again sort.Marks 1048575 (refl, refl) (g 2) (met f 2 (lit< tt)) .0 in
+      mark-again _ _ _ (g 3) (g 4) (g 5) (met f 3 (lit< tt)) (met f 4 (lit< tt)) (met f 5 (lit< tt))
+      ∙ (λ i.
+      item-again kind.State c (met f 0 (lit< tt)) i ∷ p i ∷ q i ∷ field (g 3) ∷ field (g 4) ∷ field (g 5) ∷ rest-again f refl 6 (lit≤ tt) i)
 
   -- a form with one part, of sort s
-  part-again : (s : Sort) → UpTo s 255 → (x : Field)
-      → Meets (rule.Needed s) c2
-      → ((j : ℕ) → j < 6 → Meets rule.Blank (at (drop 2 (row c2)) j))
-      → x ∷ number (byteOf c2) ∷ replicate 6 blank ≡ x ∷ drop 1 (row c2)
-  part-again s w x m h = λ i. x ∷ cut-again s 255 w c2 m i ∷ blanks (drop 2 (row c2)) h i
+  part-again : (s : Sort) → UpTo s 255 → (n : ℕ) (f : Fit kind.Sentence (row (Number (pos n))))
+      → Meets (rule.Needed s) (g 1) → length (rulesOf kind.Sentence (row (Number (pos n)))) ≤ 2
+      → number n ∷ number (byteOf (g 1)) ∷ replicate (fields - 2) blank ≡ row (Number (pos n))
+  part-again s w n f m l = λ i. number n ∷ cut-again s 255 w (g 1) m i ∷ rest-again f refl 2 l i
 
-  sentence-again : (c1 : Content) → Again kind.Sentence (row c1)
+  sentence-again : (c : Content) → Again kind.Sentence (row c)
   unfolding ruleAt shapeOf rowOf sentenceOf formOf
   sentence-again Blank f = absurd (true≢false (f .full 0 (lit< tt)))
-  sentence-again (Number (pos zero)) f = λ i. number 0 ∷ blanks (drop 1 (row c2)) (λ j h. met f (suc j) (omega arith)) i
-  sentence-again (Number (pos (suc zero))) f = part-again sort.Proposition (refl, refl) _ (met f 1 (lit< tt)) (λ j h. met f (suc (suc j)) (omega arith))
-  sentence-again (Number (pos (suc (suc zero)))) f =
-      part-again (sort.Reference kind.Guard) (refl, refl) _ (met f 1 (lit< tt)) (λ j h. met f (suc (suc j)) (omega arith))
+  sentence-again (Number (pos zero)) f = λ i. number 0 ∷ rest-again f refl 1 (lit≤ tt) i
+  sentence-again (Number (pos (suc zero))) f = part-again sort.Proposition (refl, refl) 1 f (met f 1 (lit< tt)) (lit≤ tt)
+  sentence-again (Number (pos (suc (suc zero)))) f = part-again (sort.Reference kind.Guard) (refl, refl) 2 f (met f 1 (lit< tt)) (lit≤ tt)
   sentence-again (Number (pos (suc (suc (suc zero))))) f =
-      let p = blanks (drop 3 (row c2)) (λ j h. met f (suc (suc (suc j))) (omega arith)) in
-      λ i. number 3 ∷ item-again kind.Sentence c2 (met f 1 (lit< tt)) i ∷ item-again kind.Sentence c3 (met f 2 (lit< tt)) i ∷ p i
+      λ i.
+      number 3
+      ∷ item-again kind.Sentence (g 1) (met f 1 (lit< tt)) i
+      ∷ item-again kind.Sentence (g 2) (met f 2 (lit< tt)) i
+      ∷ rest-again f refl 3 (lit≤ tt) i
   sentence-again (Number (pos (suc (suc (suc (suc zero)))))) f =
-      part-again (sort.Reference kind.Sentence) (refl, refl) _ (met f 1 (lit< tt)) (λ j h. met f (suc (suc j)) (omega arith))
+      part-again (sort.Reference kind.Sentence) (refl, refl) 4 f (met f 1 (lit< tt)) (lit≤ tt)
   sentence-again (Number (pos (suc (suc (suc (suc (suc zero))))))) f =
-      part-again (sort.Reference kind.Sentence) (refl, refl) _ (met f 1 (lit< tt)) (λ j h. met f (suc (suc j)) (omega arith))
+      part-again (sort.Reference kind.Sentence) (refl, refl) 5 f (met f 1 (lit< tt)) (lit≤ tt)
   sentence-again (Number (pos (suc (suc (suc (suc (suc (suc zero)))))))) f =
-      let a = isNumber c7 || isNumber c8 in
-      let p = term-again (isNumber c6 || a) (isNumber c5 || a) c5 c6 (λ e. rw e) (λ e. rw e) (met f 4 (lit< tt)) (met f 5 (lit< tt)) in
-      let q = term-again (isNumber c8) (isNumber c7) c7 c8 (λ e. e) (λ e. e) (met f 6 (lit< tt)) (met f 7 (lit< tt)) in
-      let t = integer-again sort.Bound c4 (met f 3 (lit< tt)) in
-      λ i. padded (number 6 ∷ item-again kind.Sentence c2 (met f 1 (lit< tt)) i ∷ item-again kind.Sentence c3 (met f 2 (lit< tt)) i ∷ t i ∷ (p i ++ q i))
+      let a = isNumber (g 6) || isNumber (g 7) in
+      let p = term-again (isNumber (g 5) || a) (isNumber (g 4) || a) (g 4) (g 5) (λ e. rw e) (λ e. rw e) (met f 4 (lit< tt)) (met f 5 (lit< tt)) in
+      let q = term-again (isNumber (g 7)) (isNumber (g 6)) (g 6) (g 7) (λ e. e) (λ e. e) (met f 6 (lit< tt)) (met f 7 (lit< tt)) in
+      let t = integer-again sort.Bound (g 3) (met f 3 (lit< tt)) in
+      (λ i. padded (number 6 ∷ item-again kind.Sentence (g 1) (met f 1 (lit< tt)) i ∷ item-again kind.Sentence (g 2) (met f 2 (lit< tt)) i ∷ t i ∷ (p i ++ q i)))
+      ∙ (λ i. take 8 (row (Number (pos 6))) ++ rest-again f refl 8 (lit≤ tt) i)
   sentence-again (Number (pos (suc (suc (suc (suc (suc (suc (suc n))))))))) f =
       let h = natural-again sort.Form 6 (refl, refl) _ (met f 0 (lit< tt)) in
       absurd (omega (arith, h .1))
   sentence-again (Number (negsuc n)) f = absurd (true≢false (f .ranged 0 (lit< tt)))
   sentence-again Bad f = absurd (true≢false (f .spelled 0 (lit< tt)))
 
-  again : (k : Kind) (c1 : Content) → Again k (row c1)
+  again : (k : Kind) (c : Content) → Again k (row c)
   again kind.State = state-again
   again kind.Guard = guard-again
   again kind.Move = move-again
@@ -250,4 +273,4 @@ tab-again {A} d r n l =
 
 pub fields-again : (k : Kind) (r : List Field) → length r ≡ fields → Fit k r → rowOf k (itemOf k r) ≡ r
 fields-again k r l =
-    subst (Again k) (tab-again blank r fields l) (again (at r 1) (at r 2) (at r 3) (at r 4) (at r 5) (at r 6) (at r 7) k (at r 0))
+    subst (Again k) (tab-again blank r fields l) (again (at r) k (at r 0))

@@ -13,10 +13,10 @@ use Rattle.faults.proofs.fits.Statement.{statement}
 use Rattle.faults.proofs.fits.Tie as tie
 
 abbrev Inv-loop : tie.InvT-loop
-Inv-loop counts shape fields k₀ k = From (wrongAt counts shape (record { fields = fields })) 8 k × (k ≤ 8)
+Inv-loop counts shape row k₀ k = From (wrongAt counts shape (record { fields = row })) fields k × (k ≤ fields)
 
 abbrev μ-loop : tie.MeasureT-loop
-μ-loop counts shape fields k₀ k = 8 - k
+μ-loop counts shape row k₀ k = fields - k
 
 loop-holds : tie.Need-loop-holds Inv-loop μ-loop
 loop-holds c = let a = c .before .args in (from-none (wrongAt (a .counts) (a .shape) (a .row)) fields, search needs)

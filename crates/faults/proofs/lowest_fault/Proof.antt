@@ -10,10 +10,10 @@ use Rattle.faults.proofs.lowest_fault.Statement.{statement}
 use Rattle.faults.proofs.lowest_fault.Tie as tie
 
 abbrev Inv-loop : tie.InvT-loop
-Inv-loop fault shape fields k₀ k = From (faultAt fault shape (record { fields = fields })) 8 k × (k ≤ 8)
+Inv-loop fault shape row k₀ k = From (faultAt fault shape (record { fields = row })) fields k × (k ≤ fields)
 
 abbrev μ-loop : tie.MeasureT-loop
-μ-loop fault shape fields k₀ k = 8 - k
+μ-loop fault shape row k₀ k = fields - k
 
 loop-holds : tie.Need-loop-holds Inv-loop μ-loop
 loop-holds c = let a = c .before .args in (from-none (faultAt (a .fault) (a .shape) (a .row)) fields, search needs)

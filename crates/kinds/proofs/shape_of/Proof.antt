@@ -4,22 +4,22 @@ use mathlib.Core.Path.{refl}
 use Prim.Native.Nat.{ℕ, _-_}
 use native.Mathlib.Omega.{arith}
 use Rattle.integer.specs.Tab.{Filled, fill-none, fill-more, fill-all}
-use Rattle.record.specs.Layout.{at}
+use Rattle.record.specs.Layout.{fields, at}
 use Rattle.kinds.specs.Table.{flagOf, shapeOf}
 use Rattle.kinds.proofs.shape_of.Statement.{statement}
 use Rattle.kinds.proofs.shape_of.Tie as tie
 
 abbrev Inv-loop : tie.InvT-loop
-Inv-loop kind fields first filled₀ k₀ filled k = Filled (λ (i : ℕ). flagOf (at fields i)) 8 filled k
+Inv-loop kind row first filled₀ k₀ filled k = Filled (λ (i : ℕ). flagOf (at row i)) fields filled k
 
 abbrev μ-loop : tie.MeasureT-loop
-μ-loop kind fields first filled₀ k₀ filled k = 8 - k
+μ-loop kind row first filled₀ k₀ filled k = fields - k
 
 array-copy-out-first : tie.Need-array-copy-out-first Inv-loop μ-loop
 array-copy-out-first c = search needs
 
 loop-holds : tie.Need-loop-holds Inv-loop μ-loop
-loop-holds c = fill-none _ 8 _ refl
+loop-holds c = fill-none _ fields _ refl
 
 mul-field : tie.Need-mul-field Inv-loop μ-loop
 mul-field c = search needs
@@ -45,7 +45,7 @@ loop-less c = search needs
 loop-again : tie.Need-loop-again Inv-loop μ-loop
 loop-again c =
     let l = c .before .before .before .loop in
-    rw (c .flag-of .ensures) (fill-more _ 8 (l .filled) (l .k) (omega arith) (l .inv))
+    rw (c .flag-of .ensures) (fill-more _ fields (l .filled) (l .k) (omega arith) (l .inv))
 
 natural-of-requires : tie.Need-natural-of-requires Inv-loop μ-loop
 natural-of-requires c κs = search needs
@@ -54,7 +54,7 @@ returns : tie.Need-returns Inv-loop μ-loop
 unfolding shapeOf
 returns c =
     let l = c .before .before .loop in
-    rw (c .natural-of .ensures, fill-all _ 8 (l .filled) (l .k) (omega arith) (l .inv))
+    rw (c .natural-of .ensures, fill-all _ fields (l .filled) (l .k) (omega arith) (l .inv))
 
 pub shape-of-spec : {M : Type 1} → statement M
 shape-of-spec =
