@@ -8,7 +8,7 @@ use lib.ListN.{getD}
 use lib.Signed.{leZ, ltZ}
 use Rattle.items.specs.declared.LoopMark.{LoopMark}
 use Rattle.items.specs.declared.LoopMark.the-variants as mark
-use Rattle.meaning.specs.declared.Label.{Label}
+use Rattle.meaning.specs.Labels.{Label}
 use Rattle.best.specs.declared.Round.{Round}
 use Rattle.best.specs.declared.Ends.{Ends}
 

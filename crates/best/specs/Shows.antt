@@ -16,12 +16,11 @@ use Rattle.kinds.specs.declared.Kind.the-variants as kind
 use Rattle.items.specs.declared.LoopMark.{LoopMark}
 use Rattle.items.specs.declared.LoopMark.the-variants as mark
 use Rattle.plan.specs.Cases.{roomOf}
-use Rattle.meaning.specs.declared.Label.{Label}
+use Rattle.meaning.specs.Labels.{Label}
 use Rattle.meaning.specs.Run.{stretch}
-use Rattle.verdict.specs.declared.Best.{Best}
-use Rattle.verdict.specs.declared.Best.the-variants as best
+use Rattle.verdict.specs.Best as best
 use Rattle.verdict.specs.Rounds.{roundsOf}
-use Rattle.verdict.specs.Best.{atLeast, plus, greater, onward, step, chain, whole, positive, power, limit, onFirst, onLast}
+use Rattle.verdict.specs.Best.{Best, atLeast, plus, greater, onward, step, chain, whole, positive, power, limit, onFirst, onLast}
 use Rattle.best.specs.declared.Round.{Round}
 use Rattle.best.specs.Numbers.{none, any, least, stopOf, goOf, larger, stepBy, withinBy, sumBy, roundBy, powerBy, limitBy, aroundBy}
 use Rattle.best.specs.Bounds.{heaviest, Light, mostRounds, Few, small, Tame}

@@ -6,13 +6,14 @@ use Rattle.faults.specs.Answers.{numberOf, fieldOf}
 use Rattle.plan.specs.declared.Run.{Run}
 use Rattle.plan.specs.Cases.{emptyCase, itemsOf}
 use Rattle.plan.specs.Taking.{isTaken, runOf}
-use Rattle.meaning.specs.Judged.{Numbers, numbersOf, zeros}
+use Rattle.meaning.specs.Judged.{Numbers, numbersOf, startOf}
 use Rattle.verdict.specs.Verdict.{verdict}
 
 -- after the records are taken, up to the first that is refused: its result, number and field; where none is, the judgement's numbers
 abbrev pub answerBy : Run → Numbers
 answerBy r =
-    cond (isTaken (r .answer)) (numbersOf (verdict (itemsOf (r .case)) zeros))
+    let x = itemsOf (r .case) in
+    cond (isTaken (r .answer)) (numbersOf (verdict x (startOf x)))
     (record { result = numberOf (r .answer); second = r .taken; third = fieldOf (r .answer) })
 
 -- the three numbers of a file

@@ -24,7 +24,7 @@ use Rattle.rules.specs.Rules.{contentAt}
 use Rattle.rules.specs.Files.{rowsOf, spelled}
 use Rattle.rules.specs.Theorems.{refused}
 use Rattle.meaning.specs.declared.Judgement.{Judgement}
-use Rattle.meaning.specs.Judged.{Finished, Judged, numbersOf, zeros}
+use Rattle.meaning.specs.Judged.{Finished, Judged, numbersOf, startOf}
 use Rattle.meaning.specs.Paper.{Means}
 use Rattle.meaning.specs.Files.{AllTaken, FileAccepted}
 use Rattle.meaning.specs.Around.{roundsAt}
@@ -64,7 +64,7 @@ pub record Demand1 : Type 0 where
   pub refused : (c : Case) (b : List ℕ) → isTaken (takenOf c b .answer) ≡ false → takenOf c b .case ≡ c
   -- the case is the one that the file spells; the judgement is worked out from it alone, and hands back numbers and no case
   pub unaltered : (bs : List ℕ) → AllTaken (cut bs) →
-      (itemsOf (runOf emptyCase bs .case) ≡ spelled bs) × (answerOf bs ≡ numbersOf (verdict (spelled bs) zeros))
+      (itemsOf (runOf emptyCase bs .case) ≡ spelled bs) × (answerOf bs ≡ numbersOf (verdict (spelled bs) (startOf (spelled bs))))
 
 pub demand-1 : Demand1
 demand-1 =
@@ -83,8 +83,8 @@ demand-1 =
 -- connect and make a run of the counter system, that every sentence at every place is marked as it is at every moment of that place, and that the last sentence
 -- is true at the start." And each answer is given, with its numbers, exactly where the meaning says so, also where there is no sentence or no closed loop.
 pub demand-2 : (bs : List ℕ) → AllTaken (cut bs) →
-    (Finished (spelled bs) → Accepts bs ↔ Means (spelled bs) zeros)
-    × ((a : Judgement) → (answerOf bs ≡ numbersOf a) ↔ Judged (spelled bs) zeros a)
+    (Finished (spelled bs) → Accepts bs ↔ Means (spelled bs) (startOf (spelled bs)))
+    × ((a : Judgement) → (answerOf bs ≡ numbersOf a) ↔ Judged (spelled bs) (startOf (spelled bs)) a)
 demand-2 bs h = (accepts-means bs h, answers-judged bs h)
 
 -- ---- demand 3

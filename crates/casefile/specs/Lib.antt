@@ -7,3 +7,4 @@ pub mod Refused
 pub mod Taken
 pub mod Demands
 pub mod Starred
+pub mod Worked

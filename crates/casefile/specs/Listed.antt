@@ -9,6 +9,8 @@ use native.Mathlib.Decide.{decLt}
 use lib.Dec.{eqb, lit<}
 use lib.ListN.{length}
 use Rattle.integer.specs.Tests.{cond-by}
+use Rattle.integer.specs.All.{All, none, also, from}
+use Rattle.integer.specs.Members.{Has, all-has, has-all, all-map, gather-has, has-below, all-pairs}
 use Rattle.record.specs.Layout.{fields, recordOf}
 use Rattle.kinds.specs.declared.Kind.{Kind}
 use Rattle.kinds.specs.declared.Kind.the-variants as kind
@@ -35,8 +37,8 @@ use Rattle.rules.specs.Kept.{sound-empty, sound-kept}
 use Rattle.rules.specs.Spelled.{size-more}
 use Rattle.rules.specs.Theorems.{answers}
 use Rattle.meaning.specs.Run.{Way, placeAt, backOf, moveAt, moveNo, moveOf, guardsOf}
-use Rattle.meaning.specs.Judged.{All, none, also, from, wayIn, waysInto, waysOf, Test, testsOf, Mark, marksOf, marked, root, stateOf, Numbers, numbersOf, zeros}
-use Rattle.meaning.specs.Lists.{Has, all-has, has-all, all-map, gather-has, has-below, all-pairs, all-marks}
+use Rattle.meaning.specs.Judged.{wayIn, waysInto, waysOf, Test, testsOf, Mark, marksOf, marked, root, stateOf, Numbers, numbersOf, startOf}
+use Rattle.meaning.specs.Lists.{all-grid}
 use Rattle.meaning.specs.Given.{facts}
 use Rattle.verdict.specs.Steps.{in-way, back-way}
 use Rattle.verdict.specs.Verdict as judge
@@ -48,7 +50,7 @@ abbrev pub room : ℕ
 room = roomOf kind.State + (roomOf kind.Guard + (roomOf kind.Move + (roomOf kind.Sentence + roomOf kind.Place)))
 
 -- the numbers of an answer
-abbrev numbers : ℕ → ℕ → ℕ → Numbers
+abbrev pub numbers : ℕ → ℕ → ℕ → Numbers
 numbers r s t = record { result = r; second = s; third = t }
 
 -- the three numbers are those of one of document 01's results
@@ -192,7 +194,7 @@ module _ (c : Case) (s : Sound c) where
       (omega (arith, held kind.Place), all-has (guards-small (moveNo (x .places) w) (way-move w p)) k))
 
   marks-fit : All MarkFits (marksOf x)
-  marks-fit = all-marks x .1 (λ i p a b. (omega (arith, held kind.Place), omega (arith, held kind.Sentence)))
+  marks-fit = all-grid (length (x .sentences)) (length (x .places)) .1 (λ i p a b. (omega (arith, held kind.Place), omega (arith, held kind.Sentence)))
 
   by-tests : (f s r : Bool) {w : Found Way} {t : Found Test} {k : Found Mark} → Of WayFits w → Of TestFits t → Of MarkFits k →
       Listed (numbersOf (judge.answerBy x f s w t k r))
@@ -205,11 +207,11 @@ module _ (c : Case) (s : Sound c) where
   by-tests true true true no-one no-one no-one = accepted
 
   -- the answer of a judgement is listed
-  judged : Listed (numbersOf (verdict x zeros))
+  judged : Listed (numbersOf (verdict x (startOf x)))
   unfolding verdict
   judged =
       by-tests (finished x) (eqb (stateOf x 0) 0) (marked x (root x) 0)
-      (found (connects x) ways-fit) (found (passes x zeros) tests-fit) (found (right x zeros) marks-fit)
+      (found (connects x) ways-fit) (found (passes x (startOf x)) tests-fit) (found (right x (startOf x)) marks-fit)
 
 -- ---- a file
 

@@ -8,16 +8,17 @@ use Prim.Native.Nat.{ℕ}
 use lib.Dec.{eqb}
 use borrow.Author.Tests.{eq-eqb}
 use Rattle.kinds.specs.declared.Kind.{Kind}
+use Rattle.counters.specs.Sum.{Counters}
 use Rattle.items.specs.Items.{rowOf}
 use Rattle.faults.specs.Answers.{numberOf}
-use Rattle.plan.specs.Cases.{emptyCase, itemsOf, listOf}
+use Rattle.plan.specs.Cases.{Items, emptyCase, itemsOf, listOf}
 use Rattle.plan.specs.Taking.{isTaken, runOf, cut}
 use Rattle.rules.specs.Files.{rowsOf, spelled}
-use Rattle.rules.specs.Stages.{known, refuses}
+use Rattle.rules.specs.Stages.{refuses}
 use Rattle.rules.specs.Theorems.{sound, spelled-case}
 use Rattle.meaning.specs.declared.Judgement.{Judgement}
 use Rattle.meaning.specs.declared.Judgement.the-variants.{Accepted, Unfinished, WrongStart, Unconnected, GuardFails, WrongMark, RootUnmarked}
-use Rattle.meaning.specs.Judged.{Finished, IsAccepted, Judged, Numbers, numbersOf, zeros}
+use Rattle.meaning.specs.Judged.{Finished, IsAccepted, Judged, Numbers, numbersOf, startOf}
 use Rattle.meaning.specs.Paper.{Means}
 use Rattle.meaning.specs.Files.{AllTaken, FileAccepted}
 use Rattle.meaning.specs.Theorems.{one-answer, zero-accepts, means, all-taken}
@@ -59,29 +60,39 @@ module _ (bs : List ℕ) (h : AllTaken (cut bs)) where
   pub fields-are : (k : Kind) → map (rowOf k) (listOf k (spelled bs)) ≡ rowsOf k (cut bs)
   fields-are k = rw (sym case-is) (spelled-case bs ended .rows k)
 
-  -- it is answered the judgement of that case
-  pub answer-is : answerOf bs ≡ numbersOf (verdict (spelled bs) zeros)
-  unfolding answerOf
-  answer-is = rw ended (ap (λ x. numbersOf (verdict x zeros)) case-is)
+  -- the case, its counters at the start, and its judgement
+  abbrev x : Items
+  x = spelled bs
 
-  judged-is : Judged (spelled bs) zeros (verdict (spelled bs) zeros)
-  judged-is = subst (λ x. Judged x zeros (verdict x zeros)) case-is (judged (runOf emptyCase bs .case) (sound bs) zeros)
+  abbrev θ : Counters
+  θ = startOf x
+
+  abbrev judgement : Judgement
+  judgement = verdict x θ
+
+  -- it is answered the judgement of that case
+  pub answer-is : answerOf bs ≡ numbersOf judgement
+  unfolding answerOf
+  answer-is = rw ended (ap (λ y. numbersOf (verdict y (startOf y))) case-is)
+
+  judged-is : Judged x θ judgement
+  judged-is = subst (λ y. Judged y (startOf y) (verdict y (startOf y))) case-is (judged (runOf emptyCase bs .case) (sound bs) _)
 
   -- which is each answer exactly where the meaning says so
-  pub answers-judged : (a : Judgement) → (answerOf bs ≡ numbersOf a) ↔ Judged (spelled bs) zeros a
+  pub answers-judged : (a : Judgement) → (answerOf bs ≡ numbersOf a) ↔ Judged x θ a
   answers-judged a = (
-    λ e. subst (Judged (spelled bs) zeros) (sym (numbered (verdict (spelled bs) zeros)) ∙ ap judgementOf (sym answer-is ∙ e) ∙ numbered a) judged-is,
-    λ j. answer-is ∙ ap numbersOf (one-answer (spelled bs) zeros (verdict (spelled bs) zeros) a judged-is j),
+    λ e. subst (Judged x θ) (sym (numbered judgement) ∙ ap judgementOf (sym answer-is ∙ e) ∙ numbered a) judged-is,
+    λ j. answer-is ∙ ap numbersOf (one-answer x θ judgement a judged-is j),
   )
 
-  taken-accepts : (answerOf bs .result ≡ 0) ↔ IsAccepted (spelled bs) zeros
-  taken-accepts = subst (λ n. (n .result ≡ 0) ↔ IsAccepted (spelled bs) zeros) (sym answer-is) (zero-accepts (spelled bs) zeros (verdict (spelled bs) zeros) judged-is)
+  taken-accepts : (answerOf bs .result ≡ 0) ↔ IsAccepted x θ
+  taken-accepts = subst (λ n. (n .result ≡ 0) ↔ IsAccepted x θ) (sym answer-is) (zero-accepts x θ judgement judged-is)
 
   -- the result is 0 exactly where demand 2 says so
-  pub accepts-means : Finished (spelled bs) → (answerOf bs .result ≡ 0) ↔ Means (spelled bs) zeros
+  pub accepts-means : Finished x → (answerOf bs .result ≡ 0) ↔ Means x θ
   accepts-means f =
       Iff·trans taken-accepts
-      (subst (λ x. Finished x → IsAccepted x zeros ↔ Means x zeros) case-is (λ o. means (runOf emptyCase bs .case) (sound bs) o zeros) f)
+      (subst (λ y. Finished y → IsAccepted y (startOf y) ↔ Means y (startOf y)) case-is (λ o. means (runOf emptyCase bs .case) (sound bs) o _) f)
 
 -- ---- any file
 
@@ -90,7 +101,7 @@ pub file-accepts : (bs : List ℕ) → (answerOf bs .result ≡ 0) ↔ FileAccep
 file-accepts bs = (
   λ z. ⊎-elim (λ t. record { taken = t; case = taken-accepts bs t .0 z })
       (λ (k, a, r, e).
-      absurd (true≢false (sym (known a .taken ∙ eq-eqb (numberOf a) 0 (ap (λ n. n .result) (sym e) ∙ z)) ∙ refuses _ _ a (r .first .applies))))
+      absurd (true≢false (sym (eq-eqb (numberOf a) 0 (ap (λ n. n .result) (sym e) ∙ z)) ∙ refuses _ _ a (r .first .applies))))
       (file-refused bs),
   λ a. taken-accepts bs (a .taken) .1 (a .case),
 )

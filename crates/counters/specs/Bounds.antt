@@ -3,34 +3,34 @@ use mathlib.Core.List.{List, [], _∷_}
 use Prim.Native.Nat.{ℕ, zero, suc, _+_, _*_, _≤_, _<_}
 use native.Mathlib.Nat.{mul-le-mul}
 use native.Mathlib.Omega.{arith}
-use lib.IntN.{ℤ, pos, negsuc, _*ℤ_}
+use lib.IntN.{ℤ, pos, _*ℤ_}
 use lib.ListN.{length, getD, take}
-use Rattle.integer.specs.Sums.{le-out, neg-rel}
-use Rattle.integer.specs.Sizes.{size, add-size, mul-size}
-use Rattle.meaning.specs.Run.{sum}
-use Rattle.meaning.specs.Judged.{All, also}
-use Rattle.meaning.specs.Facts.{Within}
+use Rattle.integer.specs.All.{All, also}
+use Rattle.integer.specs.Sizes.{size, Within, within-size, add-size, mul-size}
+use Rattle.counters.specs.Sum.{Counters, sum}
 
 -- the sizes of coefficient times counter, added up
-unfoldable pub sizes : List ℤ → (ℕ → ℤ) → ℕ
+unfoldable pub sizes : List ℤ → Counters → ℕ
 sizes [] θ = 0
 sizes (a ∷ l) θ = size a * size (θ 0) + sizes l (λ j. θ (suc j))
 
--- the sum over the first j counters and the product of the next stay within them
-pub sum-within : (l : List ℤ) (θ : ℕ → ℤ) (j : ℕ) → j < length l → size (sum (take j l) θ) + size (getD l j (pos 0)) * size (θ j) ≤ sizes l θ
+-- the sum stays within them
+pub sum-size : (l : List ℤ) (θ : Counters) → size (sum l θ) ≤ sizes l θ
+unfolding sum sizes
+sum-size [] θ = omega arith
+sum-size (a ∷ l) θ =
+    omega (arith, sum-size l (λ j. θ (suc j)), add-size (a *ℤ θ 0) (sum l (λ j. θ (suc j))), mul-size a (θ 0))
+
+-- the sum over the first j counters and the product of the next do too
+pub sum-within : (l : List ℤ) (θ : Counters) (j : ℕ) → j < length l → size (sum (take j l) θ) + size (getD l j (pos 0)) * size (θ j) ≤ sizes l θ
 unfolding sum sizes
 sum-within [] θ j h = absurd (omega arith)
 sum-within (a ∷ l) θ zero h = omega arith
 sum-within (a ∷ l) θ (suc j) h =
     omega (arith, sum-within l (λ i. θ (suc i)) j (omega arith), add-size (a *ℤ θ 0) (sum (take j l) (λ i. θ (suc i))), mul-size a (θ 0))
 
--- a number from -n to n
-pub within-size : (n : ℕ) (z : ℤ) → Within n z → size z ≤ n
-within-size n (pos k) w = omega (arith, le-out (w .1))
-within-size n (negsuc k) w = omega (arith, le-out (w .0), neg-rel (pos n))
-
 -- coefficients up to a, counters up to b
-pub sizes-le : (a b : ℕ) (l : List ℤ) (θ : ℕ → ℤ) → All (Within a) l → ((j : ℕ) → j < length l → size (θ j) ≤ b) → sizes l θ ≤ length l * (a * b)
+pub sizes-le : (a b : ℕ) (l : List ℤ) (θ : Counters) → All (Within a) l → ((j : ℕ) → j < length l → size (θ j) ≤ b) → sizes l θ ≤ length l * (a * b)
 unfolding sizes
 sizes-le a b [] θ w h = omega arith
 sizes-le a b (z ∷ l) θ (also p w) h =

@@ -1,2 +1,3 @@
+pub mod Sum
 pub mod Vectors
 pub mod Bounds

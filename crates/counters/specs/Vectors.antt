@@ -7,8 +7,8 @@ use lib.IntN.{ℤ, pos, _+ℤ_, _*ℤ_, +ℤ-assoc, +ℤ-idl, +ℤ-idr}
 use lib.ListN.{length, getD, take}
 use Rattle.integer.specs.Tab.{tab, at-tab}
 use Rattle.kinds.specs.Table.{counters}
-use Rattle.meaning.specs.Run.{sum}
 use Rattle.counters.specs.declared.Counters.{Counters}
+use Rattle.counters.specs.Sum.{sum}
 
 -- the value of counter j
 abbrev pub at : Counters → ℕ → ℤ

@@ -4,9 +4,9 @@ ghost use Prim.Native.Nat.{ℕ, _+_, _*_, _<_, _^_};
 ghost use lib.IntN.{pos, _+ℤ_, _*ℤ_};
 ghost use Rattle.integer.specs.Sizes.{size};
 ghost use Rattle.kinds.specs.Table.{counters};
-ghost use Rattle.meaning.specs.Run.{sum};
 ghost use Rattle.counters.specs.Vectors.{at, vec};
 ghost use Rattle.counters.specs.Bounds.{sizes};
+ghost use Rattle.counters.specs.Sum.{sum};
 use kinds::PerCounter;
 
 // A value for each counter.

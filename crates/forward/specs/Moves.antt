@@ -5,7 +5,7 @@ use native.Mathlib.Omega.{arith}
 use lib.IntN.{ℤ, pos, _+ℤ_, _*ℤ_, +ℤ-idr}
 use lib.ListN.{getD}
 use Rattle.integer.specs.Sums.{once-more}
-use Rattle.integer.specs.Sizes.{size}
+use Rattle.integer.specs.Sizes.{size, within-size}
 use Rattle.kinds.specs.declared.Kind.the-variants as kind
 use Rattle.kinds.specs.Table.{counters}
 use Rattle.items.specs.declared.Ref.{Ref}
@@ -17,7 +17,6 @@ use Rattle.meaning.specs.Run.{moveAt, update}
 use Rattle.meaning.specs.Given.{facts}
 use Rattle.counters.specs.declared.Counters.{Counters}
 use Rattle.counters.specs.Vectors.{at, vec}
-use Rattle.counters.specs.Bounds.{within-size}
 use Rattle.forward.specs.Tables.{vecOf, slotOf}
 use Rattle.forward.specs.Reads.{move-is, adds-none}
 use Rattle.forward.specs.Entries.{Has, has, values-same, sums-small, sums-are}

@@ -7,21 +7,21 @@ use native.Mathlib.Decide.{decLt}
 use native.Mathlib.Omega.{arith}
 use lib.IntN.{pos}
 use lib.ListN.{length, List·getD-eq-default}
-use Rattle.integer.specs.Sizes.{size, add-size, sub-size, mul-size}
+use Rattle.integer.specs.Sizes.{size, add-size, sub-size, mul-size, within-size}
 use Rattle.integer.specs.Tests.{cond-by}
 use Rattle.kinds.specs.declared.Kind.the-variants as kind
+use Rattle.counters.specs.Sum.{Counters}
 use Rattle.items.specs.declared.LoopMark.{LoopMark}
 use Rattle.items.specs.declared.LoopMark.the-variants as mark
 use Rattle.items.specs.declared.Place.{Place}
 use Rattle.plan.specs.Cases.{Items, roomOf, noItem}
 use Rattle.rules.specs.Rules.{markAt}
 use Rattle.meaning.specs.Run.{Way, stretch, moveNo, moveOf, update}
-use Rattle.meaning.specs.Judged.{zeros}
-use Rattle.meaning.specs.Facts.{Facts}
+use Rattle.meaning.specs.Judged.{startOf}
+use Rattle.meaning.specs.Facts.{mostStart, Facts}
 use Rattle.verdict.specs.Rounds.{firstOf, loopOf, isLast}
 use Rattle.verdict.specs.Forward.{ways, inBy, backBy, drift, repeats, roundsAdd, base}
 use Rattle.verdict.specs.Steps.{first-le}
-use Rattle.counters.specs.Bounds.{within-size}
 use Rattle.forward.specs.Sums.{waysBefore, waysWithin, roundsBefore, base-is}
 
 module _ {x : Items} (f : Facts x) where
@@ -42,6 +42,9 @@ module _ {x : Items} (f : Facts x) where
       go mark.None e = omega arith
       go (mark.Counted l n b) e = omega (arith, f .rounds p l n b e)
       go (mark.Endless l b) e = omega arith
+
+  pub start-small : (j : ℕ) → size (startOf x j) ≤ mostStart
+  start-small j = within-size mostStart (startOf x j) (f .starts j)
 
   module _ (j : ℕ) where
     way-size : (w : Way) → size (update (moveOf x w) j) ≤ 9999
@@ -81,18 +84,20 @@ module _ {x : Items} (f : Facts x) where
         cond-by (λ z. size z ≤ 1000000 * 1300000) (isLast (x .places) p)
         (λ e. omega (arith, mul-size (pos (repeats (loopOf (x .places) p))) (drift x j (firstOf (x .places) p)), times-size p h)) (λ e. omega arith)
 
-    pub rounds-before-size : (p : ℕ) → p ≤ roomOf kind.Place → size (roundsBefore x j p) ≤ p * 1300000000000
-    unfolding roundsBefore
-    rounds-before-size zero h = omega arith
-    rounds-before-size (suc p) h =
-        omega (arith, rounds-before-size p (omega arith), rounds-size p (omega arith), add-size (roundsBefore x j p) (roundsAdd x j p))
+    -- from any start that is small
+    module _ (θ : Counters) (small : size (θ j) ≤ mostStart) where
+      pub rounds-before-size : (p : ℕ) → p ≤ roomOf kind.Place → size (roundsBefore x θ j p) ≤ mostStart + p * 1300000000000
+      unfolding roundsBefore
+      rounds-before-size zero h = omega arith
+      rounds-before-size (suc p) h =
+          omega (arith, rounds-before-size p (omega arith), rounds-size p (omega arith), add-size (roundsBefore x θ j p) (roundsAdd x j p))
 
-    pub base-size : (p : ℕ) → p ≤ roomOf kind.Place → size (base x zeros j p) ≤ p * 1300000010000
-    base-size p h =
-        omega (
-          arith,
-          ap size (base-is x j p),
-          ways-size p,
-          rounds-before-size p h,
-          add-size (ways x j p) (roundsBefore x j p),
-        )
+      pub base-size : (p : ℕ) → p ≤ roomOf kind.Place → size (base x θ j p) ≤ mostStart + p * 1300000010000
+      base-size p h =
+          omega (
+            arith,
+            ap size (base-is x θ j p),
+            ways-size p,
+            rounds-before-size p h,
+            add-size (ways x j p) (roundsBefore x θ j p),
+          )

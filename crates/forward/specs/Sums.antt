@@ -1,4 +1,4 @@
--- The counters of a case as sums that a loop over the places keeps: of the ways so far, and of the rounds so far. Assumes nothing.
+-- The counters of a case as sums that a loop over the places keeps: of the ways so far, and of the start and the rounds so far. Assumes nothing.
 use mathlib.Core.Path.{_≡_, refl, sym, _∙_, ap}
 use Prim.Native.Nat.{ℕ, zero, suc, _+_, _-_, _≤_, _<_}
 use native.Mathlib.Numerals.{add-one}
@@ -7,10 +7,10 @@ use lib.IntN.{ℤ, pos, _+ℤ_, _-ℤ_, _*ℤ_, +ℤ-idl, +ℤ-idr, +ℤ-assoc, 
 use borrow.Author.Tests.{le-leb, lt-leb}
 use Rattle.integer.specs.Sums.{left-comm}
 use Rattle.kinds.specs.Table.{counters}
+use Rattle.counters.specs.Sum.{Counters}
 use Rattle.plan.specs.Cases.{Items}
 use Rattle.rules.specs.Rules.{markAt}
 use Rattle.meaning.specs.Run.{stretch, moveAt, update}
-use Rattle.meaning.specs.Judged.{zeros}
 use Rattle.meaning.specs.Facts.{Facts}
 use Rattle.verdict.specs.Rounds.{firstOf, loopOf}
 use Rattle.verdict.specs.Forward.{inBy, ways, drift, repeats, roundsAdd, base}
@@ -27,40 +27,40 @@ waysBefore x j (suc p) = ways x j p
 abbrev pub waysWithin : Items → ℕ → ℕ → ℤ
 waysWithin x j q = ways x j (q + stretch (markAt (x .places) q) - 1) -ℤ ways x j q
 
--- what the rounds after the first add before place p
-unfoldable pub roundsBefore : Items → ℕ → ℕ → ℤ
-roundsBefore x j zero = pos 0
-roundsBefore x j (suc p) = roundsBefore x j p +ℤ roundsAdd x j p
+-- counter j at the start, with what the rounds after the first add before place p
+unfoldable pub roundsBefore : Items → Counters → ℕ → ℕ → ℤ
+roundsBefore x θ j zero = θ j
+roundsBefore x θ j (suc p) = roundsBefore x θ j p +ℤ roundsAdd x j p
 
 regroup : (a b c d : ℤ) → ((a +ℤ b) +ℤ c) +ℤ d ≡ (a +ℤ d) +ℤ (b +ℤ c)
 regroup a b c d = simp (+ℤ-assoc, left-comm, +ℤ-comm)
 
-module _ (x : Items) (j : ℕ) where
-  -- no way leads into place 0
-  ways-are : Facts x → (p : ℕ) → ways x j p ≡ waysBefore x j p +ℤ inBy x j p
-  unfolding ways moveAt
-  ways-are f zero = sym (+ℤ-idl (inBy x j 0) ∙ ap (λ r. update (moveAt (x .moves) r) j) (f .start) ∙ at-left (pos 0) counters j)
-  ways-are f (suc p) = refl
+-- no way leads into place 0
+ways-are : {x : Items} → Facts x → (j p : ℕ) → ways x j p ≡ waysBefore x j p +ℤ inBy x j p
+unfolding ways moveAt
+ways-are {x} f j zero = sym (+ℤ-idl (inBy x j 0) ∙ ap (λ r. update (moveAt (x .moves) r) j) (f .start) ∙ at-left (pos 0) counters j)
+ways-are f j (suc p) = refl
 
-  pub base-is : (p : ℕ) → base x zeros j p ≡ ways x j p +ℤ roundsBefore x j p
+-- the ways before a place and the way into it
+pub ways-sum : {x : Items} → Facts x → (p : ℕ) → vecOf (λ j. waysBefore x j p +ℤ inBy x j p) ≡ vecOf (λ j. ways x j p)
+ways-sum {x} f p = values-same (λ j. waysBefore x j p +ℤ inBy x j p) (λ j. ways x j p) (λ j h. sym (ways-are f j p))
+
+module _ (x : Items) (θ : Counters) (j : ℕ) where
+  pub base-is : (p : ℕ) → base x θ j p ≡ ways x j p +ℤ roundsBefore x θ j p
   unfolding base ways roundsBefore
-  base-is zero = refl
+  base-is zero = sym (+ℤ-idl (θ j))
   base-is (suc p) =
       ap (λ b. b +ℤ roundsAdd x j p +ℤ inBy x j (suc p)) (base-is p)
-      ∙ regroup (ways x j p) (roundsBefore x j p) (roundsAdd x j p) (inBy x j (suc p))
+      ∙ regroup (ways x j p) (roundsBefore x θ j p) (roundsAdd x j p) (inBy x j (suc p))
 
   -- past the last place of a stretch its rounds are done, and within it none is
   module _ (p : ℕ) where
     pub rounds-done :
         firstOf (x .places) p + stretch (loopOf (x .places) p) ≤ p + 1 →
-        roundsBefore x j (p + 1) ≡ roundsBefore x j p +ℤ pos (repeats (loopOf (x .places) p)) *ℤ drift x j (firstOf (x .places) p)
+        roundsBefore x θ j (p + 1) ≡ roundsBefore x θ j p +ℤ pos (repeats (loopOf (x .places) p)) *ℤ drift x j (firstOf (x .places) p)
     unfolding roundsBefore
     rounds-done h = rw (add-one, le-leb (firstOf (x .places) p + stretch (loopOf (x .places) p)) (suc p) (omega arith)) refl
 
-    pub rounds-kept : p + 1 < firstOf (x .places) p + stretch (loopOf (x .places) p) → roundsBefore x j (p + 1) ≡ roundsBefore x j p
+    pub rounds-kept : p + 1 < firstOf (x .places) p + stretch (loopOf (x .places) p) → roundsBefore x θ j (p + 1) ≡ roundsBefore x θ j p
     unfolding roundsBefore
-    rounds-kept h = rw (add-one, lt-leb (firstOf (x .places) p + stretch (loopOf (x .places) p)) (suc p) (omega arith)) (+ℤ-idr (roundsBefore x j p))
-
--- the ways before a place and the way into it
-pub ways-sum : {x : Items} → Facts x → (p : ℕ) → vecOf (λ j. waysBefore x j p +ℤ inBy x j p) ≡ vecOf (λ j. ways x j p)
-ways-sum {x} f p = values-same (λ j. waysBefore x j p +ℤ inBy x j p) (λ j. ways x j p) (λ j h. sym (ways-are x j f p))
+    rounds-kept h = rw (add-one, lt-leb (firstOf (x .places) p + stretch (loopOf (x .places) p)) (suc p) (omega arith)) (+ℤ-idr (roundsBefore x θ j p))

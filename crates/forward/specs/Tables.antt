@@ -9,7 +9,7 @@ use Rattle.items.specs.declared.Ref.{Ref}
 use Rattle.items.specs.declared.Ref.the-variants as ref
 use Rattle.items.specs.declared.Place.{Place}
 use Rattle.plan.specs.Cases.{Items, roomOf}
-use Rattle.meaning.specs.Judged.{zeros}
+use Rattle.meaning.specs.Judged.{startOf}
 use Rattle.verdict.specs.Rounds.{firstOf}
 use Rattle.verdict.specs.Forward.{ways, drift, base}
 use Rattle.counters.specs.declared.Counters.{Counters}
@@ -53,7 +53,7 @@ driftsOf x = tableOf (length (x .places)) (λ j p. drift x j (firstOf (x .places
 
 -- the counters of each place in its first round
 abbrev pub basesOf : Items → Table
-basesOf x = tableOf (length (x .places)) (base x zeros)
+basesOf x = tableOf (length (x .places)) (base x (startOf x))
 
 -- all of them
 abbrev pub tablesOf : Items → Tables

@@ -4,7 +4,8 @@ ghost use mathlib.Core.Path.{_≡_};
 ghost use Rattle.plan.specs.Cases.{itemsOf};
 ghost use Rattle.rules.specs.Sound.{Sound};
 ghost use Rattle.meaning.specs.Run.{backOf};
-ghost use Rattle.forward.specs.Tables.{slotOf, firstsOf, waysOf, driftsOf, basesOf, tablesOf};
+ghost use Rattle.meaning.specs.Judged.{startOf};
+ghost use Rattle.forward.specs.Tables.{vecOf, slotOf, firstsOf, waysOf, driftsOf, basesOf, tablesOf};
 use counters::Counters;
 use items::LoopMark;
 use items::Ref;
@@ -125,14 +126,21 @@ fn drifts(c: Case, f: Firsts, w: Table) -> Table
     Table { at: at }
 }
 
-// The counters of each place that is held in its first round: what the ways add, and the rounds before.
+// The counters at the start.
+fn start(c: Case) -> Counters
+    ensures { λ r. ⌜ r ≡ vecOf (startOf (itemsOf c)) ⌝ }
+{
+    counters::zero()
+}
+
+// The counters of each place that is held in its first round: what they are at the start, and what the ways and the rounds before add.
 fn bases(c: Case, f: Firsts, w: Table, d: Table) -> Table
     requires { ⌜ Sound c × (f ≡ firstsOf (itemsOf c .places)) × (w ≡ waysOf (itemsOf c)) × (d ≡ driftsOf (itemsOf c)) ⌝ }
     ensures { λ r. ⌜ r ≡ basesOf (itemsOf c) ⌝ }
 {
     let n = c.count.places;
     let mut at = [counters::zero(); Case::PLACES];
-    let mut r = counters::zero();
+    let mut r = start(c);
     let mut p: usize = 0;
     while p < n {
         let x = w.at[p];

@@ -5,6 +5,8 @@ pub mod Sizes
 pub mod Tests
 pub mod Cases
 pub mod Lists
+pub mod All
+pub mod Members
 pub mod Tab
 pub mod Lowest
 pub mod Down

@@ -4,15 +4,27 @@ use mathlib.Core.Path.{_≡_}
 use Prim.Native.Nat.{ℕ, suc, _+_, _*_, _^_, _≤_, _<_, min}
 use native.Mathlib.Omega.{arith}
 use lib.IntN.{ℤ, pos, negsuc, negℤ, _+ℤ_, _-ℤ_, _*ℤ_}
+use lib.Signed.{_≤ℤ_}
 use mir.Syntax.{Width}
 use mir.Val.{SFits, toZ, ofZ, hbits}
 use mir.Facts.{toZ-ofZ}
 use Rattle.integer.specs.Order.{up, down}
-use Rattle.integer.specs.Sums.{add-rel, neg-rel}
+use Rattle.integer.specs.Sums.{le-out, le-in, add-rel, neg-rel}
 
 -- the absolute value
 abbrev pub size : ℤ → ℕ
 size z = up z + down z
+
+-- from -n to n
+abbrev pub Within : ℕ → ℤ → Type 0
+Within n z = (negℤ (pos n) ≤ℤ z) × (z ≤ℤ pos n)
+
+pub within-size : (n : ℕ) (z : ℤ) → Within n z → size z ≤ n
+within-size n (pos k) w = omega (arith, le-out (w .1))
+within-size n (negsuc k) w = omega (arith, le-out (w .0), neg-rel (pos n))
+
+pub size-within : (n : ℕ) (z : ℤ) → size z ≤ n → Within n z
+size-within n z h = (le-in (omega (arith, neg-rel (pos n))), le-in (omega arith))
 
 one-sided : (z : ℤ) → min (up z) (down z) ≡ 0
 one-sided (pos n) = omega arith

@@ -5,7 +5,7 @@ use Prim.Native.Nat.{ℕ, zero, suc, _+_, _-_, _≤_, _<_}
 use native.Mathlib.Numerals.{add-one}
 use native.Mathlib.Omega.{arith}
 use lib.ListN.{length, take, set, getD, length-set}
-use lib.Seq.{take-all, take-suc-set, append-snoc}
+use lib.Seq.{take-all, take-suc-set, append-snoc, ext-getD}
 
 -- g at n numbers from i on
 abbrev pub tab : {A : Type 0} → ℕ → ℕ → (ℕ → A) → List A
@@ -30,6 +30,14 @@ module _ {A : Type 0} (g : ℕ → A) where
   at-tab (suc n) i (suc k) d h =
       let e : i + 1 + k ≡ i + suc k = omega arith in
       at-tab n (i + 1) k d (omega arith) ∙ ap g e
+
+-- a list by its elements
+pub tab-again : {A : Type 0} (d : A) (r : List A) (n : ℕ) → length r ≡ n → tab n 0 (λ j. getD r j d) ≡ r
+tab-again {A} d r n l =
+    let g : ℕ → A = λ j. getD r j d in
+    ext-getD d (tab n 0 g) r (length-tab g n 0 ∙ sym l) (λ j h.
+    let e : 0 + j ≡ j = omega arith in
+    at-tab g n 0 j d (rw (length-tab g n 0) at h) ∙ ap g e)
 
 module _ {A : Type 0} (g : ℕ → A) (n : ℕ) where
   pub fill-none : (xs : List A) → length xs ≡ n → Filled g n xs 0

@@ -18,7 +18,7 @@ use Rattle.meaning.specs.declared.Judgement.{Judgement}
 use Rattle.meaning.specs.declared.Judgement.the-variants.{Accepted, Unfinished, WrongStart, Unconnected, GuardFails, WrongMark, RootUnmarked}
 use Rattle.meaning.specs.Run.{Way}
 use Rattle.meaning.specs.Truth.{bit}
-use Rattle.meaning.specs.Judged.{zeros, stateOf, waysOf, Test, testsOf, Mark, marksOf, marked, root}
+use Rattle.meaning.specs.Judged.{startOf, stateOf, waysOf, Test, testsOf, Mark, marksOf, marked, root}
 use Rattle.verdict.specs.Verdict.{Found, nowhere, at, firstNot, connects, passes, right, finished, answerBy, verdict}
 use Rattle.forward.specs.Reads.{at-places}
 use Rattle.marks.specs.declared.Search.{Search}
@@ -49,10 +49,10 @@ rootAnswer x = cond (marked x (root x) 0) Accepted (RootUnmarked (root x))
 
 -- from 34 on, from 33 on, from 32 on
 abbrev pub marksAnswer : Items → Judgement
-marksAnswer x = orWrongMark (toldMark (firstNot (right x zeros) (marksOf x))) (rootAnswer x)
+marksAnswer x = orWrongMark (toldMark (firstNot (right x (startOf x)) (marksOf x))) (rootAnswer x)
 
 abbrev pub guardsAnswer : Items → Judgement
-guardsAnswer x = orGuardFails (toldTest (firstNot (passes x zeros) (testsOf x))) (marksAnswer x)
+guardsAnswer x = orGuardFails (toldTest (firstNot (passes x (startOf x)) (testsOf x))) (marksAnswer x)
 
 abbrev waysAnswer : Items → Judgement
 waysAnswer x = orUnconnected (toldWay x (firstNot (connects x) (waysOf x))) (guardsAnswer x)
@@ -71,10 +71,10 @@ module _ (x : Items) where
   by-stages true true nowhere nowhere nowhere false = refl
   by-stages true true nowhere nowhere nowhere true = refl
 
-  verdict-is : verdict x zeros ≡ cond (finished x) (cond (eqb (stateOf x 0) 0) (waysAnswer x) WrongStart) (Unfinished (size x))
+  verdict-is : verdict x (startOf x) ≡ cond (finished x) (cond (eqb (stateOf x 0) 0) (waysAnswer x) WrongStart) (Unfinished (size x))
   unfolding verdict
   verdict-is =
-      by-stages (finished x) (eqb (stateOf x 0) 0) (firstNot (connects x) (waysOf x)) (firstNot (passes x zeros) (testsOf x)) (firstNot (right x zeros) (marksOf x)) (marked x (root x) 0)
+      by-stages (finished x) (eqb (stateOf x 0) 0) (firstNot (connects x) (waysOf x)) (firstNot (passes x (startOf x)) (testsOf x)) (firstNot (right x (startOf x)) (marksOf x)) (marked x (root x) 0)
 
 -- ---- as the code reads the case
 
@@ -97,18 +97,18 @@ module _ {c : Case} (s : Sound c) where
   held-is : held (c .count) ≡ size x
   held-is = ap held (counts-are c s)
 
-  judged : verdict x zeros ≡ cond isFinished (cond (eqb (first .state) 0) (waysAnswer x) WrongStart) (Unfinished (held (c .count)))
+  judged : verdict x (startOf x) ≡ cond isFinished (cond (eqb (first .state) 0) (waysAnswer x) WrongStart) (Unfinished (held (c .count)))
   judged = verdict-is x ∙ sym (rw (finished-is, at-places s 0, held-is))
 
   -- where b tells whether 24 doesn't apply
   module _ {b : Bool} (e : b ≡ isFinished) where
-    pub unfinished : b ≡ false → verdict x zeros ≡ Unfinished (held (c .count))
+    pub unfinished : b ≡ false → verdict x (startOf x) ≡ Unfinished (held (c .count))
     unfinished t = judged ∙ rw (sym e ∙ t)
 
-    pub wrong-start : b ≡ true → (first .state ≡ 0 → ⊥) → verdict x zeros ≡ WrongStart
+    pub wrong-start : b ≡ true → (first .state ≡ 0 → ⊥) → verdict x (startOf x) ≡ WrongStart
     wrong-start t h = judged ∙ rw (sym e ∙ t, ne-eqb (first .state) 0 h)
 
-    pub started : b ≡ true → first .state ≡ 0 → verdict x zeros ≡ waysAnswer x
+    pub started : b ≡ true → first .state ≡ 0 → verdict x (startOf x) ≡ waysAnswer x
     started t h = judged ∙ rw (sym e ∙ t, eq-eqb (first .state) 0 h)
 
   -- where r is the root, and b its mark at place 0

@@ -9,7 +9,7 @@ use Rattle.items.specs.declared.Guard.{Guard}
 use Rattle.plan.specs.Cases.{Items, roomOf}
 use Rattle.rules.specs.Rules.{markAt}
 use Rattle.meaning.specs.Run.{Way, guardAt}
-use Rattle.meaning.specs.Judged.{zeros, Test}
+use Rattle.meaning.specs.Judged.{startOf, Test}
 use Rattle.meaning.specs.Facts.{Facts}
 use Rattle.verdict.specs.declared.Rounds.{Rounds}
 use Rattle.verdict.specs.declared.Rounds.the-variants as rounds
@@ -19,6 +19,7 @@ use Rattle.lines.specs.Last.{lastOf}
 use Rattle.counters.specs.declared.Counters.{Counters}
 use Rattle.best.specs.Bounds.{mostRounds}
 use Rattle.forward.specs.Tables.{vecOf}
+use Rattle.forward.specs.Sizes.{start-small}
 use Rattle.marks.specs.Sums.{mark-few, first, round, SumsFit, throughBy, sums-fit, sums-are}
 
 -- ---- the rounds of a way
@@ -49,9 +50,9 @@ module _ {x : Items} (f : Facts x) (t : Test) where
 
   -- what the code reads
   module _ {g : Guard} {u v : Counters} {r : Rounds}
-      (a : g ≡ k) (b : u ≡ vecOf (first x p)) (d : v ≡ vecOf (round x p)) (e : r ≡ roundsBy (x .places) w) where
+      (a : g ≡ k) (b : u ≡ vecOf (first x p (startOf x))) (d : v ≡ vecOf (round x p)) (e : r ≡ roundsBy (x .places) w) where
     pub test-fits : p < roomOf kind.Place → SumsFit g u v r
-    test-fits h = rw (a, b, d, e) (sums-fit f (t .guard) p (roundsBy (x .places) w) rounds-few h)
+    test-fits h = rw (a, b, d, e) (sums-fit f (startOf x) (t .guard) p (start-small f) (roundsBy (x .places) w) rounds-few h)
 
-    pub test-is : isAlways (throughBy g u v (w .back) r) ≡ passes x zeros t
-    test-is = rw (a, b, d, e) (ap isAlways (sums-are f (t .guard) p (w .back) (roundsBy (x .places) w)))
+    pub test-is : isAlways (throughBy g u v (w .back) r) ≡ passes x (startOf x) t
+    test-is = rw (a, b, d, e) (ap isAlways (sums-are f (startOf x) (t .guard) p (w .back) (roundsBy (x .places) w)))

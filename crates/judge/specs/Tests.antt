@@ -7,6 +7,7 @@ use Prim.Native.Nat.{ℕ, _*_, _/_, _%_, _≤_, _<_}
 use native.Mathlib.Omega.{arith}
 use lib.Dec.{eqb}
 use lib.ListN.{length, getD}
+use Rattle.integer.specs.All.{All, none, also, from, gather}
 use Rattle.kinds.specs.declared.Kind.the-variants as kind
 use Rattle.items.specs.declared.Ref.{Ref}
 use Rattle.items.specs.declared.Ref.the-variants as ref
@@ -17,7 +18,7 @@ use Rattle.plan.specs.Cases.{Items, itemsOf, noItem, roomOf}
 use Rattle.rules.specs.Sound.{Sound}
 use Rattle.rules.specs.Held.{counted}
 use Rattle.meaning.specs.Run.{Way, moveNo, moveAt, moveOf, guardAt, named, guardsOf}
-use Rattle.meaning.specs.Judged.{All, none, also, zeros, from, gather, Test, testsOf}
+use Rattle.meaning.specs.Judged.{startOf, Test, testsOf}
 use Rattle.meaning.specs.Facts.{Facts}
 use Rattle.meaning.specs.Given.{facts}
 use Rattle.verdict.specs.declared.Rounds.the-variants as rounds
@@ -93,10 +94,10 @@ module _ (x : Items) where
 
   -- what the search for a guard that fails finds from test k on
   abbrev pub testsFrom : ℕ → Found Test
-  testsFrom = found (passes x zeros) (each isTest testNo) (4 * length (x .places))
+  testsFrom = found (passes x (startOf x)) (each isTest testNo) (4 * length (x .places))
 
-  pub tests-start : firstNot (passes x zeros) (testsOf x) ≡ testsFrom 0
-  tests-start = ap (firstNot (passes x zeros)) tests-listed ∙ found-start (passes x zeros) (each isTest testNo) (4 * length (x .places))
+  pub tests-start : firstNot (passes x (startOf x)) (testsOf x) ≡ testsFrom 0
+  tests-start = ap (firstNot (passes x (startOf x))) tests-listed ∙ found-start (passes x (startOf x)) (each isTest testNo) (4 * length (x .places))
 
 -- ---- what the code reads of test k
 

@@ -7,6 +7,7 @@ use native.Mathlib.Omega.{arith}
 use lib.Dec.{eqb}
 use lib.ListN.{length, getD}
 use Rattle.integer.specs.Tests.{cond-by}
+use Rattle.integer.specs.All.{from, gather}
 use Rattle.kinds.specs.declared.Kind.the-variants as kind
 use Rattle.items.specs.declared.Ref.{Ref}
 use Rattle.items.specs.declared.Ref.the-variants as ref
@@ -19,7 +20,7 @@ use Rattle.plan.specs.Cases.{Items, noItem, itemsOf, roomOf}
 use Rattle.rules.specs.Sound.{Sound}
 use Rattle.rules.specs.Held.{counted}
 use Rattle.meaning.specs.Run.{Way, stretch, backOf, placeAt, moveNo, moveAt}
-use Rattle.meaning.specs.Judged.{from, gather, wayIn, wayBack, waysInto, waysOf, before}
+use Rattle.meaning.specs.Judged.{wayIn, wayBack, waysInto, waysOf, before}
 use Rattle.meaning.specs.Facts.{Facts}
 use Rattle.meaning.specs.Given.{facts}
 use Rattle.verdict.specs.Verdict.{Found, firstNot, connects, numberOf}

@@ -8,7 +8,7 @@ ghost use Rattle.plan.specs.Cases.{itemsOf, roomOf};
 ghost use Rattle.plan.specs.Taking.{isClosed};
 ghost use Rattle.rules.specs.Sound.{Sound};
 ghost use Rattle.meaning.specs.Run.{stretch, backOf};
-ghost use Rattle.meaning.specs.Judged.{zeros, waysOf, testsOf};
+ghost use Rattle.meaning.specs.Judged.{startOf, waysOf, testsOf};
 ghost use Rattle.verdict.specs.declared.Rounds.the-variants as rounds;
 ghost use Rattle.verdict.specs.Rounds.{roundsOf, later};
 ghost use Rattle.verdict.specs.Verdict.{firstNot, connects, passes, isAlways, numberOf, verdict};
@@ -177,7 +177,7 @@ fn misses(q: Ref, g: Guard, base: Counters, drift: Counters, back: bool, rounds:
 // The first guard that fails when its way is taken: by place, the way in before the back move, the first guard of the move before the second.
 fn guard_fails(c: Case, t: Tables) -> Search
     requires { ⌜ (Sound c) × (t ≡ tablesOf (itemsOf c)) ⌝ }
-    ensures { λ r. ⌜ r ≡ toldTest (firstNot (passes (itemsOf c) zeros) (testsOf (itemsOf c))) ⌝ }
+    ensures { λ r. ⌜ r ≡ toldTest (firstNot (passes (itemsOf c) (startOf (itemsOf c))) (testsOf (itemsOf c))) ⌝ }
 {
     let n = c.count.places;
     let firsts = t.firsts;
@@ -239,7 +239,7 @@ fn held(count: Counts) -> usize
 // The judgement of a case: 24, 31, 32, 33, 34, 35, the first that applies, or 0.
 pub fn judge(c: Case) -> Judgement
     requires { ⌜ Sound c ⌝ }
-    ensures { λ r. ⌜ r ≡ verdict (itemsOf c) zeros ⌝ }
+    ensures { λ r. ⌜ r ≡ verdict (itemsOf c) (startOf (itemsOf c)) ⌝ }
 {
     let count = c.count;
     let loops = c.loops;

@@ -1,6 +1,6 @@
 // The kinds of records, and what each kind needs, may have and allows in each field.
 ghost use mathlib.Core.Path.{_≡_};
-ghost use mathlib.Core.Bool.{false, _||_};
+ghost use mathlib.Core.Bool.{_||_};
 ghost use mathlib.Core.List.{_∷_};
 ghost use lib.ListN.{getD, replicate};
 ghost use Rattle.kinds.specs.declared.Rule.the-variants as rule;

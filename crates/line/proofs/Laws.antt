@@ -1,54 +1,36 @@
 -- The digits of a number of a line, and bytes put into a line one after the other. Assumes nothing.
 use mathlib.Core.Path.{_≡_, refl, _∙_, sym, ap}
 use mathlib.Core.List.{List, [], _∷_, _++_, append-nil}
-use mathlib.Core.Bool.{cond}
-use Prim.Native.Nat.{ℕ, suc, _+_, _-_, _/_, _%_, _≤_, _<_}
+use Prim.Native.Nat.{ℕ, suc, _+_, _-_, _*_, _/_, _%_, _^_, _≤_, _<_}
 use native.Mathlib.Omega.{arith}
-use lib.Dec.{ltb}
 use lib.ListN.{length, length-append}
 use lib.Seq.{set-append-seam, append-snoc}
-use borrow.Author.Tests.{lt-ltb, le-ltb, ltb-true}
-use Rattle.integer.specs.Tests.{cond-by}
 use Rattle.record.specs.Spelling.{space, digit}
 use Rattle.record.specs.Spell.{numeral}
+use Rattle.spelling.specs.Digits.{numeral-one, numeral-more, numeral-length}
+use Rattle.line.specs.declared.Told.{Told}
 use Rattle.line.specs.declared.Line.{Line}
-use Rattle.line.specs.Line.{most, lineOf, longest, holding, pushed, added}
-use Rattle.line.specs.Short.{line-short}
+use Rattle.line.specs.Line.{lineOf, numbersTold, most, longest, holding, pushed, added}
 use Rattle.faults.specs.Input.{lineFeed}
-use Rattle.meaning.specs.Judged.{Numbers}
 
--- the last digit that there is place for
-last-digit : (n : ℕ) → cond (ltb n 10) (digit n ∷ []) (digit (n % 10) ∷ []) ≡ digit (n % 10) ∷ []
-last-digit n =
-    cond-by (λ ds. ds ≡ digit (n % 10) ∷ []) (ltb n 10)
-    (λ t.
-    let l = ltb-true n 10 t in
+-- ---- the digits of a number
+
+-- one digit is the last
+pub one-digit : (n : ℕ) → n < 10 → numeral n ≡ digit (n % 10) ∷ []
+one-digit n h =
     let e : n ≡ n % 10 = omega arith in
-    ap (λ d. digit d ∷ []) e)
-    (λ _. refl)
+    numeral-one n h ∙ ap (λ d. digit d ∷ []) e
 
--- a number of one digit, of two, and the last three digits of any other
-module _ (n : ℕ) where
-  pub one-digit : n < 10 → numeral most n ≡ digit (n % 10) ∷ []
-  unfolding numeral
-  one-digit h =
-      let e : n ≡ n % 10 = omega arith in
-      simp (lt-ltb n 10 h) (ap (λ d. digit d ∷ []) e)
+-- those before the last, and the last
+pub more-digits : (n : ℕ) → 10 ≤ n → numeral n ≡ numeral (n / 10) ++ (digit (n % 10) ∷ [])
+more-digits n h =
+    let e : n ≡ 10 * (n / 10) + n % 10 = omega arith in
+    ap numeral e ∙ numeral-more (n / 10) (n % 10) (omega arith) (omega arith)
 
-  pub two-digits : 10 ≤ n → n < 100 → numeral most n ≡ digit (n / 10 % 10) ∷ (digit (n % 10) ∷ [])
-  unfolding numeral
-  two-digits l h =
-      let e : n / 10 ≡ n / 10 % 10 = omega arith in
-      simp (le-ltb n 10 l, lt-ltb (n / 10) 10 (omega arith)) (ap (λ d. digit d ∷ (digit (n % 10) ∷ [])) e)
-
-  pub three-digits : 100 ≤ n → numeral most n ≡ digit (n / 100 % 10) ∷ (digit (n / 10 % 10) ∷ (digit (n % 10) ∷ []))
-  unfolding numeral
-  three-digits h =
-      let e : n / 10 / 10 ≡ n / 100 = omega arith in
-      simp (le-ltb n 10 (omega arith), le-ltb (n / 10) 10 (omega arith), e, last-digit)
+-- ---- bytes put into a line
 
 -- some bytes, and then more
-added-append : (l : Line) (bs cs : List ℕ) → added l (bs ++ cs) ≡ added (added l bs) cs
+pub added-append : (l : Line) (bs cs : List ℕ) → added l (bs ++ cs) ≡ added (added l bs) cs
 unfolding added
 added-append l [] cs = refl
 added-append l (b ∷ bs) cs = added-append (pushed l b) bs cs
@@ -69,12 +51,26 @@ added-holding bs (c ∷ cs) h =
     ∙ added-holding (bs ++ (c ∷ [])) cs (omega (arith, length-append bs (c ∷ [])))
     ∙ ap holding (append-snoc bs c cs)
 
+-- numbers of 64 bits
+pub record Wide (t : Told) : Type 0 where
+  pub result : t .result < 2 ^ 64
+  pub second : t .second < 2 ^ 64
+  pub third : t .third < 2 ^ 64
+
+-- there is room for their digits, two spaces and a line feed
+pub room : (t : Told) → Wide t → length (numeral (t .result)) + (length (numeral (t .second)) + (length (numeral (t .third)) + 3)) ≤ longest
+room t w =
+    let short : (n : ℕ) → n < 2 ^ 64 → length (numeral n) ≤ most = λ n h. numeral-length n (most - 1) (omega arith) in
+    omega (arith, short (t .result) (w .result), short (t .second) (w .second), short (t .third) (w .third))
+
 -- the parts of a line, put into an empty line one after the other
-pub line-parts : (n : Numbers) →
-    holding (lineOf n)
-    ≡ pushed (added (pushed (added (pushed (added (holding []) (numeral most (n .result))) space) (numeral most (n .second))) space) (numeral most (n .third))) lineFeed
+pub line-parts : (t : Told) → Wide t →
+    holding (lineOf (numbersTold t))
+    ≡ pushed (added (pushed (added (pushed (added (holding []) (numeral (t .result))) space) (numeral (t .second))) space) (numeral (t .third))) lineFeed
 unfolding lineOf added
-line-parts n = sym (added-holding [] (lineOf n) (omega (arith, line-short n))) ∙ simp added-append
+line-parts t w =
+    let l : length (lineOf (numbersTold t)) ≤ longest = simp length-append (omega (arith, room t w)) in
+    sym (added-holding [] (lineOf (numbersTold t)) (omega arith)) ∙ simp added-append
 
 -- the bytes that a line counts are there
 pub within : (bs : List ℕ) {l : Line} → l ≡ holding bs → l .count ≤ length (l .bytes)

@@ -1,6 +1,6 @@
 -- The line that the program prints (document 01): "one line of three numbers with single spaces".
 use mathlib.Core.List.{List, [], _∷_, _++_}
-use Prim.Native.Nat.{ℕ, _+_, _-_}
+use Prim.Native.Nat.{ℕ, _+_, _-_, _*_}
 use lib.ListN.{length, set, replicate}
 use Rattle.record.specs.Spelling.{space}
 use Rattle.record.specs.Spell.{numeral}
@@ -9,13 +9,9 @@ use Rattle.meaning.specs.Judged.{Numbers}
 use Rattle.line.specs.declared.Told.{Told}
 use Rattle.line.specs.declared.Line.{Line}
 
--- as many digits as a number of a line may have: all are below 1,000
-abbrev pub most : ℕ
-most = 3
-
 -- the bytes of the line
 unfoldable pub lineOf : Numbers → List ℕ
-lineOf n = numeral most (n .result) ++ (space ∷ (numeral most (n .second) ++ (space ∷ (numeral most (n .third) ++ (lineFeed ∷ [])))))
+lineOf n = numeral (n .result) ++ (space ∷ (numeral (n .second) ++ (space ∷ (numeral (n .third) ++ (lineFeed ∷ [])))))
 
 -- the numbers that are told
 abbrev pub numbersTold : Told → Numbers
@@ -25,9 +21,13 @@ numbersTold t = record { result = t .result; second = t .second; third = t .thir
 abbrev pub toldOf : Numbers → Told
 toldOf n = record { result = n .result; second = n .second; third = n .third }
 
--- the most bytes of a line
+-- the most digits of a number of 64 bits
+abbrev pub most : ℕ
+most = 20
+
+-- the most bytes of a line: three numbers, two spaces and a line feed
 abbrev pub longest : ℕ
-longest = 12
+longest = 3 * most + 3
 
 -- the line that holds the bytes, and 0 in what is left of its bytes
 unfoldable pub holding : List ℕ → Line

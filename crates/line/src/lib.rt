@@ -1,9 +1,10 @@
 // The line that the program prints: three numbers with single spaces, and a line feed.
 ghost use mathlib.Core.Path.{_≡_};
 ghost use Prim.Native.Nat.{_+_, _%_, _≤_, _<_};
+ghost use lib.ListN.{length};
 ghost use Rattle.record.specs.Spelling.{digit};
 ghost use Rattle.record.specs.Spell.{numeral};
-ghost use Rattle.line.specs.Line.{most, lineOf, numbersTold, longest, holding, pushed, added};
+ghost use Rattle.line.specs.Line.{lineOf, numbersTold, longest, holding, pushed, added};
 
 // The three numbers of an answer.
 pub struct Told {
@@ -19,8 +20,11 @@ pub struct Line {
 }
 
 impl Line {
-    // The most bytes of a line: three numbers of three digits, two spaces and a line feed.
-    pub const MOST: usize = 12;
+    // The most digits of a number of 64 bits.
+    const DIGITS: usize = 20;
+
+    // The most bytes of a line: three numbers, two spaces and a line feed.
+    pub const MOST: usize = 3 * Line::DIGITS + 3;
 
     // The line with one byte more.
     fn with(mut self, b: u8) -> Line
@@ -35,7 +39,7 @@ impl Line {
     }
 
     // The line with the last digit of a number more.
-    fn with_digit(self, n: usize) -> Line
+    fn with_digit(self, n: u64) -> Line
         requires { ⌜ self .count < longest ⌝ }
         ensures { λ r. ⌜ r ≡ pushed self (digit (n % 10)) ⌝ }
         ensures { λ r. ⌜ r .count ≡ self .count + 1 ⌝ }
@@ -43,19 +47,16 @@ impl Line {
         self.with(b'0' + (n % 10) as u8)
     }
 
-    // The line with a number more.
-    fn with_number(self, n: usize) -> Line
-        requires { ⌜ self .count + most ≤ longest ⌝ }
-        ensures { λ r. ⌜ r ≡ added self (numeral most n) ⌝ }
-        ensures { λ r. ⌜ r .count ≤ self .count + most ⌝ }
+    // The line with all digits of a number more: those before the last, and the last.
+    fn with_number(self, n: u64) -> Line
+        requires { ⌜ self .count + length (numeral n) ≤ longest ⌝ }
+        ensures { λ r. ⌜ r ≡ added self (numeral n) ⌝ }
+        ensures { λ r. ⌜ r .count ≡ self .count + length (numeral n) ⌝ }
     {
         if n < 10 {
             return self.with_digit(n);
         }
-        if n < 100 {
-            return self.with_digit(n / 10).with_digit(n);
-        }
-        self.with_digit(n / 100).with_digit(n / 10).with_digit(n)
+        self.with_number(n / 10).with_digit(n)
     }
 }
 
@@ -67,7 +68,7 @@ pub fn line_of(n: Told) -> Line
         bytes: [0; Line::MOST],
         count: 0,
     };
-    let first = empty.with_number(n.result).with(b' ');
-    let second = first.with_number(n.second).with(b' ');
-    second.with_number(n.third).with(b'\n')
+    let first = empty.with_number(n.result as u64).with(b' ');
+    let second = first.with_number(n.second as u64).with(b' ');
+    second.with_number(n.third as u64).with(b'\n')
 }

@@ -5,7 +5,7 @@ use mathlib.Core.Bool.{Bool, true, false}
 use Prim.Native.Nat.{ℕ, suc, _+_, _-_, _≤_, _<_}
 use native.Mathlib.Numerals.{add-one}
 use native.Mathlib.Omega.{arith}
-use Rattle.meaning.specs.Judged.{from, gather}
+use Rattle.integer.specs.All.{from, gather}
 use Rattle.verdict.specs.Verdict.{Found, nowhere, at, firstNot}
 
 -- f, where it found something, else g

@@ -3,7 +3,6 @@ use mathlib.Core.Path.{_≡_, refl, sym, _∙_, ap, ap₂, subst}
 use mathlib.Core.Bool.{Bool, cond}
 use Prim.Native.Nat.{ℕ, suc, _+_, _≤_, _<_}
 use native.Mathlib.Decide.{decLt}
-use native.Mathlib.Numerals.{add-one}
 use native.Mathlib.Omega.{arith}
 use lib.Dec.{leb}
 use lib.ListN.{length, getD, List·getD-eq-default}
@@ -18,10 +17,10 @@ use Rattle.rules.specs.Sound.{Sound}
 use Rattle.rules.specs.Held.{counted}
 use Rattle.meaning.specs.Run.{stretch, placeAt}
 use Rattle.meaning.specs.Truth.{bit}
-use Rattle.meaning.specs.Judged.{zeros, stateOf, marked}
+use Rattle.meaning.specs.Judged.{startOf, stateOf, marked}
 use Rattle.meaning.specs.Given.{facts}
 use Rattle.verdict.specs.declared.Throughout.{Throughout}
-use Rattle.verdict.specs.Rounds.{firstOf, loopOf, isLast, roundsOf, flag}
+use Rattle.verdict.specs.Rounds.{firstOf, loopOf, roundsOf, flag}
 use Rattle.verdict.specs.Forward.{drift, base}
 use Rattle.verdict.specs.Verdict.{nextBy, nextThrough, formThrough, isAlways, isNever}
 use Rattle.counters.specs.declared.Counters.{Counters}
@@ -51,17 +50,11 @@ module _ {c : Case} (s : Sound c) {f : Firsts} (e : f ≡ firstsOf (itemsOf c .p
   pub first-within : q < roomOf kind.Place
   first-within = first-below s p h first-is
 
-  stretch-is : stretch (place .mark) ≡ stretch (loopOf (x .places) p)
-  stretch-is = ap stretch (mark-is s p h first-is)
-
   pub rounds-are : roundsOf (place .mark) ≡ roundsOf (loopOf (x .places) p)
   rounds-are = ap roundsOf (mark-is s p h first-is)
 
   pub end-within : q + stretch (place .mark) ≤ roomOf kind.Place
   end-within = end-in s p h first-is refl .1
-
-  pub last-is : leb (q + stretch (place .mark)) (p + 1) ≡ isLast (x .places) p
-  last-is = rw (add-one p) (ap₂ (λ a n. leb (a + n) (suc p)) first-is stretch-is)
 
   pub next-is : (a : ℕ) {again out : Bool} → again ≡ bit (place .marks) a → out ≡ marked x a (suc p)
       → cond (leb (q + stretch (place .mark)) (suc p)) (nextBy (roundsOf (place .mark)) again out) (flag out) ≡ nextThrough x a p
@@ -75,8 +68,8 @@ module _ {c : Case} (s : Sound c) {f : Firsts} (e : f ≡ firstsOf (itemsOf c .p
 -- ---- the counters of a place that is held
 
 module _ {c : Case} (s : Sound c) {t : Tables} (e : t ≡ tablesOf (itemsOf c)) (p : ℕ) (h : p < length (itemsOf c .places)) where
-  pub base-is : (d : Counters) → getD (t .bases .at) p d ≡ vecOf (λ j. base (itemsOf c) zeros j p)
-  base-is d = values-at (length (itemsOf c .places)) (base (itemsOf c) zeros) (ap (λ (t : Tables). t .bases) e) p d h
+  pub base-is : (d : Counters) → getD (t .bases .at) p d ≡ vecOf (λ j. base (itemsOf c) (startOf (itemsOf c)) j p)
+  base-is d = values-at (length (itemsOf c .places)) (base (itemsOf c) (startOf (itemsOf c))) (ap (λ (t : Tables). t .bases) e) p d h
 
   pub drift-is : (d : Counters) → getD (t .drifts .at) p d ≡ vecOf (λ j. drift (itemsOf c) j (firstOf (itemsOf c .places) p))
   drift-is d = values-at (length (itemsOf c .places)) (λ j i. drift (itemsOf c) j (firstOf (itemsOf c .places) i)) (ap (λ (t : Tables). t .drifts) e) p d h
@@ -118,9 +111,9 @@ module _ {c : Case} (s : Sound c) (i : ℕ) {φ : Form} (e : getD (c .sentences)
   pub form-ranged : Ranged φ
   form-ranged = subst Ranged form-is (ranged s i)
 
-  pub wrong-by : wrongIn (itemsOf c) i (formThrough (itemsOf c) zeros φ) ≡ wrongOf (itemsOf c) i
-  wrong-by = ap (λ ψ. wrongIn (itemsOf c) i (formThrough (itemsOf c) zeros ψ)) (sym form-is)
+  pub wrong-by : wrongIn (itemsOf c) i (formThrough (itemsOf c) (startOf (itemsOf c)) φ) ≡ wrongOf (itemsOf c) i
+  wrong-by = ap (λ ψ. wrongIn (itemsOf c) i (formThrough (itemsOf c) (startOf (itemsOf c)) ψ)) (sym form-is)
 
-  pub simple-by : simpleThrough (itemsOf c) φ ≡ formThrough (itemsOf c) zeros φ
+  pub simple-by : simpleThrough (itemsOf c) φ ≡ formThrough (itemsOf c) (startOf (itemsOf c)) φ
       → wrongIn (itemsOf c) i (simpleThrough (itemsOf c) (getD (c .sentences) i (noItem kind.Sentence) .form)) ≡ wrongOf (itemsOf c) i
   simple-by k = ap (λ ψ. wrongIn (itemsOf c) i (simpleThrough (itemsOf c) ψ)) e ∙ ap (wrongIn (itemsOf c) i) k ∙ wrong-by

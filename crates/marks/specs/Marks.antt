@@ -7,8 +7,9 @@ use native.Mathlib.Omega.{arith}
 use borrow.Author.Tests.{lt-ltb, le-ltb}
 use lib.Dec.{ltb}
 use lib.ListN.{length}
+use Rattle.integer.specs.All.{from}
 use Rattle.plan.specs.Cases.{Items}
-use Rattle.meaning.specs.Judged.{from, zeros, Mark, marksOf}
+use Rattle.meaning.specs.Judged.{startOf, Mark, marksOf}
 use Rattle.verdict.specs.Verdict.{Found, nowhere, at, firstNot, right}
 use Rattle.marks.specs.declared.Search.{Search}
 use Rattle.marks.specs.declared.Search.the-variants.{Nowhere, At}
@@ -49,21 +50,21 @@ module _ (x : Items) where
 
   -- what the search for a wrong mark finds from sentence i on
   abbrev pub rowsFrom : ℕ → Search
-  rowsFrom i = toldMark (found (right x zeros) (rowAt x) n i)
+  rowsFrom i = toldMark (found (right x (startOf x)) (rowAt x) n i)
 
-  pub rows-start : toldMark (firstNot (right x zeros) (marksOf x)) ≡ rowsFrom 0
-  rows-start = ap toldMark (found-start (right x zeros) (rowAt x) n)
+  pub rows-start : toldMark (firstNot (right x (startOf x)) (marksOf x)) ≡ rowsFrom 0
+  rows-start = ap toldMark (found-start (right x (startOf x)) (rowAt x) n)
 
   pub rows-end : (i : ℕ) → n ≤ i → rowsFrom i ≡ Nowhere
-  rows-end i h = ap toldMark (found-end (right x zeros) (rowAt x) n i h)
+  rows-end i h = ap toldMark (found-end (right x (startOf x)) (rowAt x) n i h)
 
   -- where p is the first place at which sentence i is marked wrongly: it is found, or there is none and the sentence is passed over
   module _ (i : ℕ) (h : i < n) {p : ℕ} (e : p ≡ wrongOf x i) where
-    row-is : firstNot (right x zeros) (rowAt x i) ≡ cond (ltb p (length (x .places))) (at (markNo i p)) nowhere
-    row-is = rw e (row-first (right x zeros) (markNo i) 0 (length (x .places)) (length (x .places)) (omega arith))
+    row-is : firstNot (right x (startOf x)) (rowAt x i) ≡ cond (ltb p (length (x .places))) (at (markNo i p)) nowhere
+    row-is = rw e (row-first (right x (startOf x)) (markNo i) 0 (length (x .places)) (length (x .places)) (omega arith))
 
-    rows-turn : rowsFrom i ≡ toldMark (orElse (cond (ltb p (length (x .places))) (at (markNo i p)) nowhere) (found (right x zeros) (rowAt x) n (i + 1)))
-    rows-turn = ap toldMark (found-turn (right x zeros) (rowAt x) n i h) ∙ rw row-is
+    rows-turn : rowsFrom i ≡ toldMark (orElse (cond (ltb p (length (x .places))) (at (markNo i p)) nowhere) (found (right x (startOf x)) (rowAt x) n (i + 1)))
+    rows-turn = ap toldMark (found-turn (right x (startOf x)) (rowAt x) n i h) ∙ rw row-is
 
     pub rows-here : p < length (x .places) → rowsFrom i ≡ At (record { 0 = p }) i
     rows-here l = rows-turn ∙ rw (lt-ltb p (length (x .places)) l)

@@ -10,27 +10,25 @@ use lib.Signed.{ltZ}
 use lib.ListN.{getD, List·getD-eq-default}
 use Rattle.integer.specs.Order.{lt-false}
 use Rattle.integer.specs.Sums.{le-in}
-use Rattle.integer.specs.Sizes.{size, add-size}
+use Rattle.integer.specs.Sizes.{size, add-size, Within, within-size}
 use Rattle.integer.specs.Tests.{cond-by, neither}
+use Rattle.faults.specs.Faults.{beyond}
+use Rattle.plan.specs.declared.Case.{Case}
+use Rattle.plan.specs.Cases.{itemsOf, noItem}
+use Rattle.best.specs.Bounds.{Light}
 use Rattle.record.specs.declared.Content.the-variants.{Number}
 use Rattle.kinds.specs.declared.Kind.the-variants as kind
 use Rattle.kinds.specs.Table.{between, ruleAt, shapeOf}
-use Rattle.faults.specs.Faults.{beyond}
+
 use Rattle.items.specs.declared.Term.{Term}
 use Rattle.items.specs.declared.Term.the-variants as term
 use Rattle.items.specs.declared.Form.{Form}
 use Rattle.items.specs.declared.Form.the-variants as form
 use Rattle.items.specs.declared.Sentence.{Sentence}
 use Rattle.items.specs.Items.{rowOf}
-use Rattle.plan.specs.declared.Case.{Case}
-use Rattle.plan.specs.Cases.{itemsOf, noItem}
 use Rattle.rules.specs.Sound.{Sound, Fit}
 use Rattle.rules.specs.Held.{counted}
-use Rattle.meaning.specs.Facts.{Within}
-use Rattle.meaning.specs.Counting.{worth, weightOf}
-use Rattle.meaning.specs.Below.{labelOf}
-use Rattle.counters.specs.Bounds.{within-size}
-use Rattle.best.specs.Bounds.{Light}
+use Rattle.meaning.specs.Labels.{worth, weightOf, labelOf}
 
 -- a term with a coefficient from -999 to 999
 abbrev pub Mild : Term → Type 0

@@ -15,9 +15,8 @@ use Rattle.integer.specs.Tab.{tab, length-tab}
 use Rattle.kinds.specs.declared.Kind.the-variants as kind
 use Rattle.items.specs.declared.Term.{Term}
 use Rattle.plan.specs.Cases.{Items, roomOf}
-use Rattle.meaning.specs.declared.Label.{Label}
+use Rattle.meaning.specs.Labels.{Label, weightOf}
 use Rattle.meaning.specs.Judged.{marked}
-use Rattle.meaning.specs.Counting.{weightOf}
 use Rattle.best.specs.declared.Steps.{Steps}
 use Rattle.best.specs.Numbers.{none, nth, choiceBy, stopOf, goOf}
 use Rattle.best.specs.Shows.{StepsAre}

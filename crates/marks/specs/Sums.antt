@@ -1,21 +1,21 @@
 -- The sums of a guard at a place: they fit, and are those of the definition. Assumes nothing.
 use mathlib.Core.Path.{_≡_, refl, _∙_, ap, ap₂}
 use mathlib.Core.Bool.{Bool, false, cond}
-use mathlib.Core.List.{List, [], _∷_}
-use Prim.Native.Nat.{ℕ, suc, _+_, _*_, _≤_, _<_, _^_}
+use mathlib.Core.List.{List}
+use Prim.Native.Nat.{ℕ, _+_, _*_, _≤_, _<_, _^_}
 use native.Mathlib.Nat.{mul-le-mul}
 use native.Mathlib.Omega.{arith}
-use lib.IntN.{ℤ, pos, _+ℤ_, _*ℤ_, +ℤ-idr}
-use Rattle.integer.specs.Sizes.{size, add-size, mul-size}
+use lib.IntN.{ℤ, pos, _+ℤ_, +ℤ-idr}
+use Rattle.integer.specs.Sizes.{size}
 use Rattle.kinds.specs.declared.Kind.the-variants as kind
 use Rattle.items.specs.declared.LoopMark.{LoopMark}
 use Rattle.items.specs.declared.LoopMark.the-variants as mark
 use Rattle.items.specs.declared.Guard.{Guard}
 use Rattle.plan.specs.Cases.{Items, roomOf}
 use Rattle.rules.specs.Rules.{markAt}
-use Rattle.meaning.specs.Run.{sum, guardAt}
-use Rattle.meaning.specs.Judged.{zeros}
-use Rattle.meaning.specs.Facts.{Facts}
+use Rattle.meaning.specs.Run.{guardAt}
+use Rattle.meaning.specs.Judged.{startOf}
+use Rattle.meaning.specs.Facts.{mostStart, Facts}
 use Rattle.verdict.specs.declared.Rounds.{Rounds}
 use Rattle.verdict.specs.declared.Throughout.{Throughout}
 use Rattle.verdict.specs.Rounds.{firstOf, loopOf, roundsOf, through}
@@ -26,15 +26,10 @@ use Rattle.lines.specs.Last.{lastOf}
 use Rattle.counters.specs.declared.Counters.{Counters}
 use Rattle.counters.specs.Vectors.{at, at-is, sum-is}
 use Rattle.counters.specs.Bounds.{sizes, sizes-le}
+use Rattle.counters.specs.Sum.{sum}
 use Rattle.best.specs.Bounds.{mostRounds}
 use Rattle.forward.specs.Tables.{vecOf}
-use Rattle.forward.specs.Sizes.{repeats-size, drift-size, base-size}
-
-pub sum-size : (l : List ℤ) (θ : ℕ → ℤ) → size (sum l θ) ≤ sizes l θ
-unfolding sum sizes
-sum-size [] θ = omega arith
-sum-size (a ∷ l) θ =
-    omega (arith, sum-size l (λ j. θ (suc j)), add-size (a *ℤ θ 0) (sum l (λ j. θ (suc j))), mul-size a (θ 0))
+use Rattle.forward.specs.Sizes.{start-small, repeats-size, drift-size, base-size}
 
 -- the last round of a stretch is how often it is gone through again
 last-is : (m : LoopMark) → lastOf (roundsOf m) ≡ repeats m
@@ -46,9 +41,9 @@ pub mark-few : {x : Items} → Facts x → (p : ℕ) → lastOf (roundsOf (markA
 mark-few {x} f p = rw (last-is (markAt (x .places) p)) (repeats-size f p)
 
 module _ (x : Items) (p : ℕ) where
-  -- the counters of place p in its first round, what a round adds, and its rounds
-  abbrev pub first : ℕ → ℤ
-  first j = base x zeros j p
+  -- the counters of place p in its first round from a start, what a round adds, and its rounds
+  abbrev pub first : (ℕ → ℤ) → ℕ → ℤ
+  first θ j = base x θ j p
 
   abbrev pub round : ℕ → ℤ
   round j = drift x j (firstOf (x .places) p)
@@ -59,7 +54,7 @@ module _ (x : Items) (p : ℕ) where
 -- what the code reads for guard g at place p
 pub record Known (x : Items) (g p : ℕ) (k : Guard) (u v : Counters) (r : Rounds) : Type 0 where
   pub guard : k ≡ guardAt (x .guards) g
-  pub base : u ≡ vecOf (first x p)
+  pub base : u ≡ vecOf (first x p (startOf x))
   pub drift : v ≡ vecOf (round x p)
   pub rounds : r ≡ times x p
 
@@ -74,8 +69,8 @@ throughBy g u v later r =
     let d = sum (g .coefficients .at) (at v) in
     through (a +ℤ cond later d (pos 0)) d (g .bound) r
 
--- guard g at place p
-module _ {x : Items} (f : Facts x) (g p : ℕ) where
+-- guard g at place p, from a start
+module _ {x : Items} (f : Facts x) (θ : ℕ → ℤ) (g p : ℕ) where
   -- the guard, and its counters as the tables have them
   abbrev guard : Guard
   guard = guardAt (x .guards) g
@@ -84,17 +79,17 @@ module _ {x : Items} (f : Facts x) (g p : ℕ) where
   l = guard .coefficients .at
 
   abbrev u : Counters
-  u = vecOf (first x p)
+  u = vecOf (first x p θ)
 
   abbrev v : Counters
   v = vecOf (round x p)
 
-  pub sums-fit : (r : Rounds) → lastOf r ≤ mostRounds → p < roomOf kind.Place → SumsFit guard u v r
-  sums-fit r k h =
+  pub sums-fit : ((j : ℕ) → size (θ j) ≤ mostStart) → (r : Rounds) → lastOf r ≤ mostRounds → p < roomOf kind.Place → SumsFit guard u v r
+  sums-fit small r k h =
       let c = f .coefficients g in
       let a =
-      sizes-le 999 (roomOf kind.Place * 1300000010000) l (at u) (c .1)
-      (λ j k. rw (at-is u (first x p) refl j (omega (arith, c .0))) (omega (arith, base-size f j p (omega arith)))) in
+      sizes-le 999 (mostStart + roomOf kind.Place * 1300000010000) l (at u) (c .1)
+      (λ j k. rw (at-is u (first x p θ) refl j (omega (arith, c .0))) (omega (arith, base-size f j θ (small j) p (omega arith)))) in
       let b =
       sizes-le 999 1300000 l (at v) (c .1)
       (λ j k.
@@ -103,18 +98,18 @@ module _ {x : Items} (f : Facts x) (g p : ℕ) where
       omega (arith, c .0, a, b, mul-le-mul k b)
 
   pub sums-are : (later : Bool) (r : Rounds) → throughBy guard u v later r
-      ≡ through (firstSum x zeros guard p +ℤ cond later (roundSum x guard p) (pos 0)) (roundSum x guard p) (guard .bound) r
+      ≡ through (firstSum x θ guard p +ℤ cond later (roundSum x guard p) (pos 0)) (roundSum x guard p) (guard .bound) r
   unfolding throughBy
   sums-are later r =
       let h = f .coefficients g .0 in
-      ap₂ (λ a d. through (a +ℤ cond later d (pos 0)) d (guard .bound) r) (sum-is u (first x p) refl l h) (sum-is v (round x p) refl l h)
+      ap₂ (λ a d. through (a +ℤ cond later d (pos 0)) d (guard .bound) r) (sum-is u (first x p θ) refl l h) (sum-is v (round x p) refl l h)
 
 module _ {x : Items} (f : Facts x) {g p : ℕ} {k : Guard} {u v : Counters} {r : Rounds} (y : Known x g p k u v r) where
   pub guard-fits : p < roomOf kind.Place → SumsFit k u v r
-  guard-fits h = rw (y .guard, y .base, y .drift, y .rounds) (sums-fit f g p (times x p) (mark-few f (firstOf (x .places) p)) h)
+  guard-fits h = rw (y .guard, y .base, y .drift, y .rounds) (sums-fit f (startOf x) g p (start-small f) (times x p) (mark-few f (firstOf (x .places) p)) h)
 
-  pub guard-is : throughBy k u v false r ≡ guardThrough x zeros (guardAt (x .guards) g) p
+  pub guard-is : throughBy k u v false r ≡ guardThrough x (startOf x) (guardAt (x .guards) g) p
   guard-is =
-      let e = +ℤ-idr (firstSum x zeros (guardAt (x .guards) g) p) in
-      rw (y .guard, y .base, y .drift, y .rounds) (sums-are f g p false (times x p))
+      let e = +ℤ-idr (firstSum x (startOf x) (guardAt (x .guards) g) p) in
+      rw (y .guard, y .base, y .drift, y .rounds) (sums-are f (startOf x) g p false (times x p))
       ∙ ap (λ a. through a (roundSum x (guardAt (x .guards) g) p) (guardAt (x .guards) g .bound) (times x p)) e

@@ -17,14 +17,12 @@ use Rattle.kinds.specs.declared.Kind.the-variants as kind
 use Rattle.items.specs.declared.LoopMark.{LoopMark}
 use Rattle.items.specs.declared.Place.{Place}
 use Rattle.plan.specs.Cases.{Items, roomOf}
-use Rattle.meaning.specs.declared.Label.{Label}
+use Rattle.meaning.specs.Labels.{Label}
 use Rattle.meaning.specs.Run.{stretch}
 use Rattle.meaning.specs.Facts.{Facts}
-use Rattle.verdict.specs.declared.Best.{Best}
-use Rattle.verdict.specs.declared.Best.the-variants as best
-use Rattle.verdict.specs.declared.Front.{Front}
+use Rattle.verdict.specs.Best as best
 use Rattle.verdict.specs.Rounds.{firstOf, loopOf, isLast, roundsOf, agree}
-use Rattle.verdict.specs.Best.{step, chain, whole, onFirst, onLast, frontBy, front}
+use Rattle.verdict.specs.Best.{Best, Front, step, chain, whole, onFirst, onLast, frontBy, front}
 use Rattle.best.specs.Numbers.{none, stopOf, goOf, stepBy, aroundBy}
 use Rattle.best.specs.Bounds.{Light, Few, small, Tame}
 use Rattle.best.specs.Stretches.{stretch-room, stretch-few}

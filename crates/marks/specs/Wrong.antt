@@ -8,10 +8,10 @@ use Rattle.kinds.specs.declared.Kind.the-variants as kind
 use Rattle.items.specs.declared.Form.{Form}
 use Rattle.items.specs.declared.Form.the-variants as form
 use Rattle.plan.specs.Cases.{Items, roomOf, noItem}
-use Rattle.meaning.specs.declared.Label.{Label}
+use Rattle.meaning.specs.Labels.{Label}
 use Rattle.meaning.specs.Truth.{bit}
 use Rattle.meaning.specs.Run.{placeAt}
-use Rattle.meaning.specs.Judged.{zeros, stateOf, marked, Mark}
+use Rattle.meaning.specs.Judged.{startOf, stateOf, marked, Mark}
 use Rattle.verdict.specs.declared.Throughout.{Throughout}
 use Rattle.verdict.specs.Rounds.{flag}
 use Rattle.verdict.specs.Best.{front}
@@ -40,7 +40,7 @@ formAt x i = getD (x .sentences) i (noItem kind.Sentence) .form
 
 -- the first place at which sentence i is marked wrongly
 abbrev pub wrongOf : Items → ℕ → ℕ
-wrongOf x i = wrongIn x i (formThrough x zeros (formAt x i))
+wrongOf x i = wrongIn x i (formThrough x (startOf x) (formAt x i))
 
 -- ---- by form
 

@@ -10,9 +10,8 @@ ghost use Rattle.plan.specs.Cases.{itemsOf, roomOf};
 ghost use Rattle.rules.specs.Sound.{Sound};
 ghost use Rattle.meaning.specs.Run.{guardAt, stretch};
 ghost use Rattle.meaning.specs.Truth.{bit};
-ghost use Rattle.meaning.specs.Judged.{zeros, marked, marksOf};
-ghost use Rattle.meaning.specs.Counting.{worth};
-ghost use Rattle.meaning.specs.Below.{labelOf};
+ghost use Rattle.meaning.specs.Judged.{startOf, marked, marksOf};
+ghost use Rattle.meaning.specs.Labels.{worth, labelOf};
 ghost use Rattle.verdict.specs.Rounds.{roundsOf, flag};
 ghost use Rattle.verdict.specs.Verdict.{firstNot, guardThrough, nextBy, nextThrough, isAlways, isNever, right};
 ghost use Rattle.forward.specs.Tables.{firstsOf, tablesOf};
@@ -108,7 +107,7 @@ pub fn guard_through(
 // The first place at which sentence i, guard g, is marked wrongly.
 fn guard_wrong(c: Case, t: Tables, i: u8, g: u8) -> usize
     requires { ⌜ (Sound c) × (t ≡ tablesOf (itemsOf c)) ⌝ }
-    ensures { λ r. ⌜ r ≡ wrongIn (itemsOf c) i (guardThrough (itemsOf c) zeros (guardAt (itemsOf c .guards) g)) ⌝ }
+    ensures { λ r. ⌜ r ≡ wrongIn (itemsOf c) i (guardThrough (itemsOf c) (startOf (itemsOf c)) (guardAt (itemsOf c .guards) g)) ⌝ }
 {
     let guard = guard_at(c, g);
     let firsts = t.firsts;
@@ -309,7 +308,7 @@ fn simple_wrong(c: Case, i: u8, form: Form) -> usize
 // The first wrong mark: by sentence, then by place.
 pub fn wrong_mark(c: Case, t: Tables) -> Search
     requires { ⌜ (Sound c) × (t ≡ tablesOf (itemsOf c)) ⌝ }
-    ensures { λ r. ⌜ r ≡ toldMark (firstNot (right (itemsOf c) zeros) (marksOf (itemsOf c))) ⌝ }
+    ensures { λ r. ⌜ r ≡ toldMark (firstNot (right (itemsOf c) (startOf (itemsOf c))) (marksOf (itemsOf c))) ⌝ }
 {
     let firsts = t.firsts;
     let n = c.count.sentences;

@@ -7,15 +7,17 @@ use Prim.Native.Nat.{ℕ, zero, suc, _≤_, _<_}
 use native.Mathlib.Nat.{eq-or-lt-of-le, le-of-suc-le-suc}
 use native.Mathlib.Omega.{arith}
 use lib.ListN.{getD}
+use Rattle.integer.specs.All.{All}
+use Rattle.integer.specs.Members.{first-one, all-first}
+use Rattle.counters.specs.Sum.{Counters}
 use Rattle.items.specs.declared.Guard.{Guard}
 use Rattle.items.specs.declared.Sentence.{Sentence}
 use Rattle.plan.specs.Cases.{Items}
 use Rattle.meaning.specs.declared.Judgement.{Judgement}
 use Rattle.meaning.specs.declared.Judgement.the-variants.{Accepted, Unfinished, WrongStart, Unconnected, GuardFails, WrongMark, RootUnmarked}
-use Rattle.meaning.specs.Run.{Moment, Way, Counters}
+use Rattle.meaning.specs.Run.{Moment, Way}
 use Rattle.meaning.specs.Truth.{Trace, True}
-use Rattle.meaning.specs.Judged.{All, stateOf, waysOf, Connects, Test, testsOf, Passes, Fails, Mark, marksOf, marked, root, Right, Wrong, Finished, IsAccepted, Judged, numbersOf}
-use Rattle.meaning.specs.Lists.{first-one, all-first}
+use Rattle.meaning.specs.Judged.{stateOf, waysOf, Connects, Test, testsOf, Passes, Fails, Mark, marksOf, marked, root, Right, Wrong, Finished, IsAccepted, Judged, numbersOf}
 
 -- ---- an answer by its numbers
 

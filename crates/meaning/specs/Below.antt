@@ -2,23 +2,24 @@
 use mathlib.Core.Path.{_≡_, refl}
 use mathlib.Core.Logic.{_↔_}
 use mathlib.Core.List.{List, _++_}
-use mathlib.Core.Bool.{Bool, true}
+use mathlib.Core.Bool.{true}
 use Prim.Native.Nat.{ℕ, zero, suc, _<_}
 use native.Mathlib.Omega.{arith}
 use native.Mathlib.Decide.{decLt}
 use lib.IntN.{ℤ}
 use borrow.Author.Tests.{eq-eqb, ne-eqb}
+use Rattle.counters.specs.Sum.{Counters}
 use Rattle.items.specs.declared.Term.{Term}
 use Rattle.items.specs.declared.Form.the-variants as form
 use Rattle.items.specs.declared.Guard.{Guard}
 use Rattle.items.specs.declared.Sentence.{Sentence}
 use Rattle.plan.specs.Cases.{Items}
-use Rattle.meaning.specs.Run.{Moment, Counters, here, spot}
+use Rattle.meaning.specs.Run.{Moment, here, spot}
 use Rattle.meaning.specs.Truth.{Trace, Until, counted, TrueBelow, True}
 use Rattle.meaning.specs.Judged.{marked, TrueAt, traceOf}
 use Rattle.meaning.specs.Facts.{Refers}
-use Rattle.meaning.specs.declared.Label.{Label}
-use Rattle.meaning.specs.Counting.{Gets, weightOf, until-gets, adds-weight}
+use Rattle.meaning.specs.Labels.{labelOf}
+use Rattle.meaning.specs.Counting.{Gets, until-gets, adds-weight}
 
 pub below : (gs : List Guard) (fs : List Sentence) (t : Trace) (n j : ℕ) (m : Moment) → j < n → TrueBelow gs fs t n j m ≡ True gs fs t j m
 unfolding TrueBelow
@@ -28,10 +29,6 @@ below gs fs t (suc n) j m h =
       | yes w ↦ rw (ne-eqb j n (λ e. omega arith)) (below gs fs t n j m w)
       | no w ↦ let e : n ≡ j = omega arith in rw (e, eq-eqb j j refl)
     ]
-
--- the label of place p for an until of these sentences and terms, where mk s p tells whether sentence s is marked there
-abbrev pub labelOf : (ℕ → ℕ → Bool) → ℕ → ℕ → Term → Term → ℕ → Label
-labelOf mk a b t u p = record { goal = mk b p; held = mk a p; weight = weightOf (λ s. mk s p) t u }
 
 -- the marks of the sentences below i are right
 abbrev pub RightBelow : Items → Counters → ℕ → Type 0

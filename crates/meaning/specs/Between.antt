@@ -3,15 +3,16 @@ use mathlib.Core.Path.{_≡_, refl, sym, _∙_, ap, ap₂, subst}
 use mathlib.Core.Logic.{_↔_, _⊎_, inl, inr, ⊎-elim}
 use mathlib.Core.List.{List, [], _∷_}
 use mathlib.Core.Bool.{Bool, true}
-use Prim.Native.Nat.{ℕ, zero, suc, _+_, _*_, _-_, _≤_, _<_}
+use Prim.Native.Nat.{ℕ, zero, suc, _+_, _*_, _≤_, _<_}
 use native.Mathlib.Omega.{arith}
 use native.Mathlib.Nat.{eq-or-lt-of-le}
 use lib.IntN.{ℤ, pos, _+ℤ_, _*ℤ_}
 use lib.Signed.{_≤ℤ_}
-use Rattle.items.specs.declared.Place.{Place}
 use Rattle.integer.specs.Sums.{le-in, le-or, swap-sums, times-sum}
-use Rattle.meaning.specs.Run.{Moment, here, spot, taken, Counters, sum}
-use Rattle.meaning.specs.declared.Label.{Label}
+use Rattle.counters.specs.Sum.{Counters, sum}
+use Rattle.items.specs.declared.Place.{Place}
+use Rattle.meaning.specs.Run.{Moment, here, spot, taken}
+use Rattle.meaning.specs.Labels.{Label}
 use Rattle.meaning.specs.Counting.{total, total-same, Gets, gets-up, gets-down, gets-later}
 use Rattle.meaning.specs.Repeats.{Repeats}
 

@@ -1,26 +1,28 @@
 -- Document 01's ceilings: before the endless loop and in its first round no counter passes 640,000,000,000 either way, and no guard sum
--- 3,000,000,000,000,000. Assumes nothing.
+-- 3,000,000,000,000,000, beside what the counters are at the start. Assumes nothing.
 use mathlib.Core.Path.{_≡_, refl}
 use mathlib.Core.Logic.{_⊎_, inl, inr, ⊎-elim}
-use mathlib.Core.List.{List, [], _∷_}
+use mathlib.Core.List.{List}
 use mathlib.Core.Bool.{true, false, true≢false, false≢true}
 use Prim.Native.Nat.{ℕ, zero, suc, _+_, _*_, _≤_, _<_}
-use native.Mathlib.Nat.{mul-le-mul, mul-le-mul-right}
+use native.Mathlib.Nat.{mul-le-mul-right}
 use native.Mathlib.Omega.{arith}
 use borrow.Author.Tests.{ltb-true, ltb-false}
 use lib.Dec.{ltb}
-use lib.IntN.{ℤ, pos, negsuc, _+ℤ_, _*ℤ_, negℤ}
+use lib.IntN.{ℤ}
 use lib.ListN.{length}
+use Rattle.integer.specs.Sizes.{size, Within, add-size, within-size, size-within}
 use Rattle.integer.specs.Tests.{cond-by}
+use Rattle.kinds.specs.Table as table
+use Rattle.counters.specs.Sum.{Counters, sum}
+use Rattle.counters.specs.Bounds.{sum-size, sizes-le}
 use Rattle.items.specs.declared.LoopMark.{LoopMark}
 use Rattle.items.specs.declared.LoopMark.the-variants as mark
 use Rattle.items.specs.declared.Place.{Place}
 use Rattle.plan.specs.Cases.{Items}
 use Rattle.rules.specs.Rules.{markAt, isEndless}
-use Rattle.integer.specs.Sums.{le-out, le-in, add-rel, neg-rel}
-use Rattle.meaning.specs.Run.{Moment, Counters, Spot, Step, here, stretch, again, next, spot, taken, moveNo, counters, sum, guardAt}
-use Rattle.meaning.specs.Judged.{All, also, zeros}
-use Rattle.meaning.specs.Facts.{Within, Facts}
+use Rattle.meaning.specs.Run.{Moment, Spot, Step, here, stretch, again, next, spot, taken, moveNo, moveOf, update, counters, guardAt}
+use Rattle.meaning.specs.Facts.{Facts}
 
 -- ---- moments
 
@@ -82,60 +84,32 @@ module _ (x : Items) (f : Facts x) where
       let h : y .round + 1 ≤ 1000000 = ⊎-elim (λ t. omega (arith, e .first-round t)) (λ t. omega arith) (p .few) in
       omega (arith, p .soon, p .inside, mul-le-mul-right L h, f .room (y .first) (omega (arith, e .held)))
 
--- ---- numbers
-
-within-pos : (n k : ℕ) → k ≤ n → Within n (pos k)
-within-pos n k h = (le-in (omega (arith, neg-rel (pos n))), le-in (omega arith))
-
-within-neg : (n k : ℕ) → k ≤ n → Within n (negℤ (pos k))
-within-neg n k h = (le-in (omega (arith, neg-rel (pos n), neg-rel (pos k))), le-in (omega (arith, neg-rel (pos k))))
-
-within-more : (n a : ℕ) {z : ℤ} → a ≤ n → Within a z → Within n z
-within-more n a h w =
-    (le-in (omega (arith, le-out (w .0), neg-rel (pos a), neg-rel (pos n))), le-in (omega (arith, le-out (w .1))))
-
-within-sum : (n a b : ℕ) {u v : ℤ} → a + b ≤ n → Within a u → Within b v → Within n (u +ℤ v)
-within-sum n a b {u} {v} h p q = (
-  le-in (omega (arith, le-out (p .0), le-out (q .0), add-rel u v, neg-rel (pos a), neg-rel (pos b), neg-rel (pos n))),
-  le-in (omega (arith, le-out (p .1), le-out (q .1), add-rel u v)),
-)
-
--- what lies within is no larger
-above : (n k : ℕ) → Within n (pos k) → k ≤ n
-above n k w = omega (arith, le-out (w .1))
-
-below : (n k : ℕ) → Within n (negsuc k) → suc k ≤ n
-below n k w = omega (arith, le-out (w .0), neg-rel (pos n))
-
-within-times : (a b : ℕ) (u v : ℤ) → Within a u → Within b v → Within (a * b) (u *ℤ v)
-within-times a b (pos m) (pos k) p q = within-pos (a * b) (m * k) (mul-le-mul (above a m p) (above b k q))
-within-times a b (pos m) (negsuc k) p q = within-neg (a * b) (m * suc k) (mul-le-mul (above a m p) (below b k q))
-within-times a b (negsuc m) (pos k) p q = within-neg (a * b) (suc m * k) (mul-le-mul (below a m p) (above b k q))
-within-times a b (negsuc m) (negsuc k) p q = within-pos (a * b) (suc m * suc k) (mul-le-mul (below a m p) (below b k q))
-
-sum-within : (a b : ℕ) (l : List ℤ) (θ : Counters) → All (Within a) l → ((j : ℕ) → Within b (θ j)) → Within (length l * (a * b)) (sum l θ)
-unfolding sum
-sum-within a b [] θ w h = within-pos (0 * (a * b)) 0 (omega arith)
-sum-within a b (z ∷ l) θ (also p w) h =
-    within-sum (suc (length l) * (a * b)) (a * b) (length l * (a * b)) (omega arith)
-    (within-times a b z (θ 0) p (h 0)) (sum-within a b l (λ j. θ (suc j)) w (λ j. h (suc j)))
-
 -- ---- the ceilings
 
-module _ (x : Items) (f : Facts x) where
-  counter-within : (m : Moment) (j : ℕ) → Within (9999 * m) (counters x zeros m j)
+-- from counters that are within b at the start
+module _ (x : Items) (f : Facts x) (θ : Counters) (b : ℕ) (start : (j : ℕ) → Within b (θ j)) where
+  counter-size : (m : Moment) (j : ℕ) → size (counters x θ m j) ≤ b + 9999 * m
   unfolding counters
-  counter-within zero j = within-pos 0 0 (omega arith)
-  counter-within (suc m) j =
-      within-sum (9999 * suc m) (9999 * m) 9999 (omega arith) (counter-within m j) (f .updates (moveNo (x .places) (taken (x .places) m)) j)
+  counter-size zero j = omega (arith, within-size b (θ j) (start j))
+  counter-size (suc m) j =
+      let u = update (moveOf x (taken (x .places) m)) j in
+      omega (arith, counter-size m j, within-size 9999 u (f .updates (moveNo (x .places) (taken (x .places) m)) j), add-size (counters x θ m j) u)
 
   module _ (m : Moment) (e : Early (x .places) m) where
-    pub counter-ceiling : (j : ℕ) → Within 640000000000 (counters x zeros m j)
-    counter-ceiling j = within-more 640000000000 (9999 * m) (omega (arith, moments x f m e)) (counter-within m j)
+    counter-small : (j : ℕ) → size (counters x θ m j) ≤ 640000000000 + b
+    counter-small j = omega (arith, counter-size m j, moments x f m e)
 
-    pub sum-ceiling : (g : ℕ) → Within 3000000000000000 (sum (guardAt (x .guards) g .coefficients .at) (counters x zeros m))
+    pub counter-ceiling : (j : ℕ) → Within (640000000000 + b) (counters x θ m j)
+    counter-ceiling j = size-within (640000000000 + b) (counters x θ m j) (counter-small j)
+
+    pub sum-ceiling : (g : ℕ) → Within (3000000000000000 + table.counters * 999 * b) (sum (guardAt (x .guards) g .coefficients .at) (counters x θ m))
     sum-ceiling g =
         let l : List ℤ = guardAt (x .guards) g .coefficients .at in
         let c = f .coefficients g in
-        within-more 3000000000000000 (length l * (999 * 640000000000)) (omega (arith, c .0))
-        (sum-within 999 640000000000 l (counters x zeros m) (c .1) counter-ceiling)
+        size-within (3000000000000000 + table.counters * 999 * b) (sum l (counters x θ m))
+        (omega (
+          arith,
+          sum-size l (counters x θ m),
+          sizes-le 999 (640000000000 + b) l (counters x θ m) (c .1) (λ j h. counter-small j),
+          mul-le-mul-right (999 * (640000000000 + b)) (c .0),
+        ))

@@ -13,7 +13,7 @@ use Rattle.integer.specs.Order.{up, down}
 use Rattle.items.specs.declared.Term.{Term}
 use Rattle.items.specs.declared.Term.the-variants as term
 use Rattle.integer.specs.Sums.{le-out, le-in, le-or, add-rel, neg-rel}
-use Rattle.meaning.specs.declared.Label.{Label}
+use Rattle.meaning.specs.Labels.{Label, worth, weightOf}
 use Rattle.meaning.specs.Run.{Moment}
 use Rattle.meaning.specs.Truth.{Counted, Adds, Sum, Until, counted}
 use Rattle.meaning.specs.Facts.{TermRefers}
@@ -248,15 +248,6 @@ module _ (Held Goal : Moment → Type 0) (ts : List Counted) (l : ℕ → Label)
   )
 
 -- ---- what the terms add
-
--- what a term adds, where mark s tells whether sentence s is true
-abbrev pub worth : (ℕ → Bool) → Term → ℤ
-worth mark term.None = pos 0
-worth mark (term.Some c s) = cond (mark s) c (pos 0)
-
--- what the terms of a sentence add, by marks
-unfoldable pub weightOf : (ℕ → Bool) → Term → Term → ℤ
-weightOf mark t u = worth mark t +ℤ worth mark u
 
 -- one term more
 adds-one : {A : ℤ → Type 0} {T : Type 0} (c w z : ℤ) (mark : Bool) → (mark ≡ true) ↔ T → ((y : ℤ) → A y ↔ (y ≡ w))

@@ -14,13 +14,15 @@ use Rattle.items.specs.declared.Form.the-variants as form
 use Rattle.plan.specs.Cases.{Items, noItem}
 use Rattle.rules.specs.Rules.{markAt, lengthOf, isEndless, Closed}
 use Rattle.integer.specs.Sums.{le-out, le-or}
-use Rattle.meaning.specs.Run.{Moment, Counters, here, stretch, again, spot, sum, guardAt}
+use Rattle.counters.specs.Sum.{Counters, sum}
+use Rattle.meaning.specs.Run.{Moment, here, stretch, again, spot, guardAt}
 use Rattle.meaning.specs.Truth.{Says, bit}
 use Rattle.meaning.specs.Judged.{marked, TrueAt, traceOf}
 use Rattle.meaning.specs.Facts.{Facts, Laid, Refers}
 use Rattle.meaning.specs.Walk.{Reached, reach, in-stretch}
 use Rattle.meaning.specs.Counting.{Decided, gets-decided}
-use Rattle.meaning.specs.Below.{labelOf, RightBelow, SaysBelow, says-below, until-labels}
+use Rattle.meaning.specs.Labels.{labelOf}
+use Rattle.meaning.specs.Below.{RightBelow, SaysBelow, says-below, until-labels}
 
 -- ---- the endless loop comes again and again
 

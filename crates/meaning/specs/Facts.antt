@@ -1,11 +1,11 @@
 -- What the laws of a run need of a case. Every case with the invariant has it (Given.antt).
-use mathlib.Core.Path.{_≡_}
+use mathlib.Core.Path.{_≡_, refl}
 use mathlib.Core.List.{List}
 use mathlib.Core.Bool.{true}
 use Prim.Native.Nat.{ℕ, _+_, _≤_, _<_}
-use lib.IntN.{ℤ, pos, negℤ}
-use lib.Signed.{_≤ℤ_}
 use lib.ListN.{length, getD, set}
+use Rattle.integer.specs.All.{All}
+use Rattle.integer.specs.Sizes.{Within}
 use Rattle.kinds.specs.declared.Kind.the-variants as kind
 use Rattle.kinds.specs.Table.{counters}
 use Rattle.items.specs.declared.Ref.{Ref}
@@ -20,7 +20,7 @@ use Rattle.items.specs.declared.Place.{Place}
 use Rattle.plan.specs.Cases.{Items, noItem, roomOf}
 use Rattle.rules.specs.Rules.{markAt, isEndless}
 use Rattle.meaning.specs.Run.{stretch, placeAt, moveAt, backOf, update, guardAt, guardsOf}
-use Rattle.meaning.specs.Judged.{All}
+use Rattle.meaning.specs.Judged.{startOf}
 
 -- loops have places, don't overlap, and the endless one comes last
 pub record Laid (ps : List Place) : Type 0 where
@@ -43,9 +43,9 @@ Refers i (form.Not a) = a < i
 Refers i (form.Next a) = a < i
 Refers i (form.Until a b z t u) = (a < i) × (b < i) × TermRefers i t × TermRefers i u
 
--- from -n to n
-abbrev pub Within : ℕ → ℤ → Type 0
-Within n z = (negℤ (pos n) ≤ℤ z) × (z ≤ℤ pos n)
+-- ten million: no number that a field can spell passes it
+abbrev pub mostStart : ℕ
+mostStart = 10000000
 
 -- what is known of the items of a case with the invariant
 pub record Facts (x : Items) : Type 0 where
@@ -61,6 +61,7 @@ pub record Facts (x : Items) : Type 0 where
   pub refers : (i : ℕ) → i < length (x .sentences) → Refers i (getD (x .sentences) i (noItem kind.Sentence) .form)
   -- numbers are in their ranges
   pub updates : (t : Ref) (j : ℕ) → Within 9999 (update (moveAt (x .moves) t) j)
+  pub starts : (j : ℕ) → Within mostStart (startOf x j)
   pub coefficients : (g : ℕ) → (length (guardAt (x .guards) g .coefficients .at) ≤ counters) × All (Within 999) (guardAt (x .guards) g .coefficients .at)
 
 -- ---- other rounds in one counted loop
@@ -83,3 +84,8 @@ placesWith ps s n = set ps s (placeWith n (placeAt ps s))
 abbrev pub withRounds : Items → ℕ → ℕ → Items
 withRounds x s n =
     record { states = x .states; guards = x .guards; moves = x .moves; sentences = x .sentences; places = placesWith (x .places) s n }
+
+-- which starts as the case does
+pub start-with : (x : Items) (s n : ℕ) → startOf (withRounds x s n) ≡ startOf x
+unfolding startOf
+start-with x s n = refl

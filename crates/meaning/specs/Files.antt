@@ -6,7 +6,7 @@ use Rattle.faults.specs.declared.Answer.{Answer}
 use Rattle.plan.specs.Taking.{cut}
 use Rattle.rules.specs.Rules.{Applies}
 use Rattle.rules.specs.Files.{spelledBy, spelled}
-use Rattle.meaning.specs.Judged.{zeros, IsAccepted}
+use Rattle.meaning.specs.Judged.{startOf, IsAccepted}
 
 -- no refusal applies to any record, where the records before it spell the case
 abbrev pub AllTaken : List (List ℕ) → Type 0
@@ -15,4 +15,4 @@ AllTaken rs = (k : ℕ) → k < length rs → (a : Answer) → Applies (spelledB
 -- a file is accepted: its records are all taken, and none of 24 and 31 to 35 applies to the case that it spells
 pub record FileAccepted (bs : List ℕ) : Type 0 where
   pub taken : AllTaken (cut bs)
-  pub case : IsAccepted (spelled bs) zeros
+  pub case : IsAccepted (spelled bs) (startOf (spelled bs))

@@ -1,8 +1,8 @@
 -- Demand 3 of files, from that of cases. Assumes nothing.
-use mathlib.Core.Path.{_≡_, refl, _∙_, sym, ap, ap₂, subst}
+use mathlib.Core.Path.{_≡_, refl, _∙_, sym, ap, ap₂, subst, subst₂}
 use mathlib.Core.List.{List, [], _∷_, _++_, map}
 use mathlib.Core.Bool.{true, false, _||_, true≢false}
-use Prim.Native.Nat.{ℕ, _+_, _*_, _≤_, _<_}
+use Prim.Native.Nat.{ℕ, _+_, _*_, _≤_}
 use native.Mathlib.Omega.{arith}
 use lib.Dec.{eqb, lit<}
 use lib.IntN.{ℤ, pos, negsuc}
@@ -37,9 +37,9 @@ use Rattle.rules.specs.Held.{taken-with}
 use Rattle.rules.specs.Spelled.{rows-same, rows-other, goes-on}
 use Rattle.rules.specs.Theorems.{sound, spelled-case}
 use Rattle.integer.specs.Sums.{le-out}
-use Rattle.meaning.specs.Judged.{zeros, IsAccepted}
+use Rattle.meaning.specs.Judged.{startOf, IsAccepted}
 use Rattle.meaning.specs.Files.{FileAccepted}
-use Rattle.meaning.specs.Facts.{Facts, markWith, placeWith, placesWith, withRounds}
+use Rattle.meaning.specs.Facts.{Facts, markWith, placeWith, placesWith, withRounds, start-with}
 use Rattle.meaning.specs.Given.{facts}
 use Rattle.meaning.specs.Third.{between}
 use Rattle.meaning.specs.AllTaken.{spelled-append, all-taken}
@@ -194,11 +194,11 @@ module _ (pre post : List ℕ) (i : ℕ) (w : Around pre post i) (is : (f : List
       record {
         taken = all-taken (file fb) .1 (taken-too fa fb a b sa sb ra rb ta);
         case =
-            subst (λ y. IsAccepted y zeros) (sym (with-n fb b sb nb))
+            subst₂ IsAccepted (sym (with-n fb b sb nb)) (sym (start-n fb b sb nb))
             (between x known (length ps) (k .0) (natural (Number a)) (k .1) (omega (arith, ap length are, length-append ps (place a ∷ qs)))
             (ap (λ l. markAt l (length ps)) are ∙ ap (λ (q : Place). q .mark) (getD-append-seam ps (place a) qs (noItem kind.Place)) ∙ k .2)
-            (na .0) (nb .0) (nc .0) (na .2) (less a b (na .0) (nb .0) ab (na .1) (nb .1)) (less b c (nb .0) (nc .0) bc (nb .1) (nc .1)) zeros
-            (subst (λ y. IsAccepted y zeros) (with-n fa a sa na) (va .case)) (subst (λ y. IsAccepted y zeros) (with-n fc c sc nc) (vc .case)));
+            (na .0) (nb .0) (nc .0) (na .2) (less a b (na .0) (nb .0) ab (na .1) (nb .1)) (less b c (nb .0) (nc .0) bc (nb .1) (nc .1)) (startOf x)
+            (subst₂ IsAccepted (with-n fa a sa na) (start-n fa a sa na) (va .case)) (subst₂ IsAccepted (with-n fc c sc nc) (start-n fc c sc nc) (vc .case)));
       }
     where
       x : Items
@@ -239,6 +239,9 @@ module _ (pre post : List ℕ) (i : ℕ) (w : Around pre post i) (is : (f : List
 
       with-n : (f : List ℕ) (z : ℤ) → SpellsNumber f z → (n : AtLeastOne z) → spelled (file f) ≡ withRounds x (length ps) (n .0)
       with-n f z s n = with-rounds fa f a (n .0) sa (subst (SpellsNumber f) (n .1) s)
+
+      start-n : (f : List ℕ) (z : ℤ) → SpellsNumber f z → (n : AtLeastOne z) → startOf (spelled (file f)) ≡ startOf x
+      start-n f z s n = ap startOf (with-n f z s n) ∙ start-with x (length ps) (n .0)
 
 -- three files alike in every byte but the seven of the rounds field of one counted loop, which spell a ≤ b ≤ c: if those with a and c are
 -- accepted, so is the one with b

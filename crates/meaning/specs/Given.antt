@@ -43,9 +43,11 @@ use Rattle.rules.specs.Rules.{countsOf, markAt, lengthOf}
 use Rattle.rules.specs.Sound.{shape, Sound, Fit, There, reach}
 use Rattle.rules.specs.Held.{counted, counts-are}
 use Rattle.integer.specs.Sums.{le-in}
+use Rattle.integer.specs.All.{All, none, also}
+use Rattle.integer.specs.Sizes.{Within}
 use Rattle.meaning.specs.Run.{stretch, backOf, moveAt, named, guardsOf}
-use Rattle.meaning.specs.Judged.{All, none, also}
-use Rattle.meaning.specs.Facts.{TermRefers, Refers, Within, Facts}
+use Rattle.meaning.specs.Judged.{startOf}
+use Rattle.meaning.specs.Facts.{TermRefers, Refers, mostStart, Facts}
 
 -- ---- lists
 
@@ -233,7 +235,7 @@ module _ (c : Case) (s : Sound c) where
       by-end (λ (m : Move). All (Within 9999) (m .updates .at)) (x .moves) (noItem kind.Move) t (λ h. held kind.Move t h .1) (zeros-within 9999 counters refl)
 
   pub facts : Facts (itemsOf c)
-  unfolding moveAt
+  unfolding moveAt startOf
   facts =
       record {
         laid =
@@ -256,6 +258,7 @@ module _ (c : Case) (s : Sound c) where
         backs = λ p t h. has-back (length (x .moves)) t (markAt (x .places) p) (marks p);
         guards = λ t h. held kind.Move t h .0;
         refers = held kind.Sentence;
+        starts = λ j. within mostStart (pos 0) refl;
         updates = λ t. all-at (Within 9999) _ (pos 0) (adds t) (within 9999 (pos 0) refl);
         coefficients =
             λ g. by-end (Has (countsOf x) kind.Guard) (x .guards) (noItem kind.Guard) g (held kind.Guard g) (omega arith, zeros-within 999 counters refl);

@@ -3,10 +3,12 @@ use mathlib.Core.Path.{_≡_}
 use mathlib.Core.Logic.{_↔_, _⊎_}
 use mathlib.Core.List.{List, [], _∷_, _++_, map}
 use mathlib.Core.Bool.{Bool, true, false, cond}
-use Prim.Native.Nat.{ℕ, zero, suc, _+_, _-_, _<_}
+use Prim.Native.Nat.{ℕ, suc, _+_, _-_, _<_}
 use lib.IntN.{pos}
 use lib.ListN.{length, getD}
+use Rattle.integer.specs.All.{All, First, from, gather}
 use Rattle.kinds.specs.declared.Kind.the-variants as kind
+use Rattle.counters.specs.Sum.{Counters}
 use Rattle.items.specs.declared.LoopMark.{LoopMark}
 use Rattle.items.specs.declared.LoopMark.the-variants as mark
 use Rattle.items.specs.declared.Ref.{Ref}
@@ -17,36 +19,14 @@ use Rattle.rules.specs.Rules.{Closed}
 use Rattle.rules.specs.Files.{size}
 use Rattle.meaning.specs.declared.Judgement.{Judgement}
 use Rattle.meaning.specs.declared.Judgement.the-variants.{Accepted, Unfinished, WrongStart, Unconnected, GuardFails, WrongMark, RootUnmarked}
-use Rattle.meaning.specs.Run.{Moment, Way, Counters, here, stretch, spot, taken, moveNo, moveOf, counters, placeAt, guardAt, guardsOf, Meets}
+use Rattle.meaning.specs.Run.{Moment, Way, here, stretch, spot, taken, moveNo, moveOf, counters, placeAt, guardAt, guardsOf, Meets}
 use Rattle.meaning.specs.Truth.{Trace, bit, True}
-
--- ---- lists in document 01's order
-
--- all of a list are good
-pub data All {A : Type 0} (Good : A → Type 0) : List A → Type 0 where
-  none : All Good []
-  also : {x : A} {l : List A} → Good x → All Good l → All Good (x ∷ l)
-
--- x is bad, and all before it are good
-pub data First {A : Type 0} (Good Bad : A → Type 0) : List A → A → Type 0 where
-  this : {x : A} {l : List A} → Bad x → First Good Bad (x ∷ l) x
-  later : {x y : A} {l : List A} → Good y → First Good Bad l x → First Good Bad (y ∷ l) x
-
--- the numbers from s on, n of them
-unfoldable pub from : ℕ → ℕ → List ℕ
-from s zero = []
-from s (suc n) = s ∷ from (suc s) n
-
--- f of each of a list, in order
-unfoldable pub gather : {A B : Type 0} → (A → List B) → List A → List B
-gather f [] = []
-gather f (a ∷ l) = f a ++ gather f l
 
 -- ---- the case
 
--- the initial counters: all are 0
-abbrev pub zeros : Counters
-zeros j = pos 0
+-- the counters at the start of a run of the case: all are 0 (document 01)
+unfoldable pub startOf : Items → Counters
+startOf x j = pos 0
 
 -- 24 doesn't apply: there is a sentence, and the endless loop has closed
 abbrev pub Finished : Items → Type 0

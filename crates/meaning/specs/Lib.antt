@@ -11,6 +11,7 @@ pub mod Stays
 pub mod Answers
 pub mod Second
 pub mod Ceilings
+pub mod Labels
 pub mod Counting
 pub mod Below
 pub mod Decided
@@ -23,6 +24,3 @@ pub mod Around
 pub mod Alike
 pub mod FilesBetween
 pub mod Theorems
-pub mod Unrolled
-pub mod Examples
-pub mod UntilExamples

@@ -6,11 +6,13 @@ use mathlib.Core.Bool.{true}
 use Prim.Native.Nat.{ℕ, suc, _<_}
 use lib.IntN.{_+ℤ_}
 use lib.ListN.{length}
+use Rattle.integer.specs.All.{All}
+use Rattle.counters.specs.Sum.{Counters}
 use Rattle.items.specs.declared.Guard.{Guard}
 use Rattle.items.specs.declared.Move.{Move}
 use Rattle.plan.specs.Cases.{Items}
-use Rattle.meaning.specs.Run.{Moment, Counters, here, spot, taken, moveOf, update, counters, guardsOf, Meets}
-use Rattle.meaning.specs.Judged.{All, waysOf, Connects, stateOf, marked, root, TrueAt}
+use Rattle.meaning.specs.Run.{Moment, here, spot, taken, moveOf, update, counters, guardsOf, Meets}
+use Rattle.meaning.specs.Judged.{waysOf, Connects, stateOf, marked, root, TrueAt}
 
 -- a is item n of the list
 pub data Item {A : Type 0} : List A → ℕ → A → Type 0 where

@@ -6,6 +6,7 @@ use mathlib.Core.Bool.{Bool, true, false, cond, true≢false}
 use Prim.Native.Nat.{ℕ, zero, suc, _+_, _-_, _≤_}
 use native.Mathlib.Omega.{arith}
 use lib.ListN.{length, getD, set, length-set}
+use Rattle.integer.specs.All.{from, gather}
 use Rattle.kinds.specs.declared.Kind.the-variants as kind
 use Rattle.items.specs.declared.LoopMark.{LoopMark}
 use Rattle.items.specs.declared.LoopMark.the-variants as mark
@@ -14,7 +15,7 @@ use Rattle.plan.specs.Cases.{Items, noItem}
 use Rattle.rules.specs.Rules.{markAt, lengthOf, isEndless, endAt, Closed}
 use Rattle.meaning.specs.Run.{Way, stretch, backOf, placeAt, moveNo, moveAt, moveOf, guardsOf}
 use Rattle.meaning.specs.Truth.{bit}
-use Rattle.meaning.specs.Judged.{from, gather, stateOf, waysInto, wayBack, wayIn, waysOf, before, Connects, testsOf, marked}
+use Rattle.meaning.specs.Judged.{stateOf, waysInto, wayBack, wayIn, waysOf, before, Connects, testsOf, marked}
 use Rattle.meaning.specs.Facts.{Laid, markWith, placeWith, placesWith, withRounds}
 
 -- what f tells of an item stays where the item that is set tells the same

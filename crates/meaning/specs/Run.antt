@@ -5,10 +5,11 @@ use mathlib.Core.List.{List, [], _∷_, _++_}
 use mathlib.Core.Bool.{Bool, true, false, cond}
 use Prim.Native.Nat.{ℕ, zero, suc, _+_}
 use lib.Dec.{ltb}
-use lib.IntN.{ℤ, pos, _+ℤ_, _*ℤ_}
+use lib.IntN.{ℤ, pos, _+ℤ_}
 use lib.Signed.{_≤ℤ_}
 use lib.ListN.{getD}
 use Rattle.kinds.specs.declared.Kind.the-variants as kind
+use Rattle.counters.specs.Sum.{Counters, sum}
 use Rattle.items.specs.declared.Ref.{Ref}
 use Rattle.items.specs.declared.Ref.the-variants as ref
 use Rattle.items.specs.declared.LoopMark.{LoopMark}
@@ -104,10 +105,6 @@ moveOf x w = moveAt (x .moves) (moveNo (x .places) w)
 
 -- ---- its counters
 
--- a value for each counter, of which there may be any number
-abbrev pub Counters : Type 0
-Counters = ℕ → ℤ
-
 -- what a move adds to counter j
 abbrev pub update : Move → ℕ → ℤ
 update t j = getD (t .updates .at) j (pos 0)
@@ -119,12 +116,7 @@ counters x start (suc m) j = counters x start m j +ℤ update (moveOf x (taken (
 
 -- ---- guards
 
--- the sum of coefficient times counter
-unfoldable pub sum : List ℤ → Counters → ℤ
-sum [] θ = pos 0
-sum (a ∷ l) θ = a *ℤ θ 0 +ℤ sum l (λ j. θ (suc j))
-
--- a guard is true where the sum is at least the bound
+-- a guard is true where the sum of coefficient times counter is at least the bound
 abbrev pub Meets : Guard → Counters → Type 0
 Meets g θ = g .bound ≤ℤ sum (g .coefficients .at) θ
 

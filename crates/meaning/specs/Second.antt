@@ -6,13 +6,16 @@ use mathlib.Core.List.{List, [], _∷_}
 use Prim.Native.Nat.{ℕ, zero, suc, _<_}
 use native.Mathlib.Omega.{arith}
 use lib.ListN.{length, getD}
+use Rattle.integer.specs.All.{All}
+use Rattle.integer.specs.Members.{Has, all-has, has-all, all-pairs}
 use Rattle.kinds.specs.declared.Kind.the-variants as kind
+use Rattle.counters.specs.Sum.{Counters}
 use Rattle.plan.specs.Cases.{Items, noItem}
-use Rattle.meaning.specs.Run.{Moment, Way, Counters, Meets, here, spot, taken, moveAt, moveOf, counters, guardAt, guardsOf}
-use Rattle.meaning.specs.Judged.{All, stateOf, waysOf, testsOf, Passes, root, Finished, Connected, IsAccepted}
+use Rattle.meaning.specs.Run.{Moment, Way, Meets, here, spot, taken, moveAt, moveOf, counters, guardAt, guardsOf}
+use Rattle.meaning.specs.Judged.{stateOf, waysOf, testsOf, Passes, root, Finished, Connected, IsAccepted}
 use Rattle.meaning.specs.Paper.{Item, top, below, Fires, Means}
 use Rattle.meaning.specs.Facts.{Facts}
-use Rattle.meaning.specs.Lists.{Has, all-has, has-all, all-pairs, all-marks}
+use Rattle.meaning.specs.Lists.{all-grid}
 use Rattle.meaning.specs.Stays.{in-plan, from-there, way-there}
 
 -- ---- items
@@ -70,7 +73,7 @@ module _ (x : Items) (f : Facts x) (o : Finished x) (θ : Counters) where
       there : IsAccepted x θ → Means x θ
       there h =
           let t = h .0 .0 .0 in
-          let r = all-marks x .0 (h .0 .1) in
+          let r = all-grid (length (x .sentences)) (length (x .places)) .0 (h .0 .1) in
           let z = in-plan x (f .laid) (o .1) in
           record {
             connected = t .1;
@@ -88,6 +91,6 @@ module _ (x : Items) (f : Facts x) (o : Finished x) (θ : Counters) where
       back : Means x θ → IsAccepted x θ
       back h =
           let n : 0 < length (x .places) = omega (arith, in-plan x (f .laid) (o .1) 0) in (
-            ((((o, h .run .begins), h .connected), tests .1 (λ w g i j. passes h w g j)), all-marks x .1 (λ i p a b. record { same = h .labelled i p a b })),
+            ((((o, h .run .begins), h .connected), tests .1 (λ w g i j. passes h w g j)), all-grid (length (x .sentences)) (length (x .places)) .1 (λ i p a b. record { same = h .labelled i p a b })),
             h .labelled (root x) 0 (omega (arith, o .0)) n 0 refl .1 (h .holds),
           )

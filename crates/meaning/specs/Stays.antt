@@ -10,6 +10,7 @@ use lib.Dec.{ltb}
 use lib.ListN.{length}
 use borrow.Author.Tests.{ltb-true, ltb-false}
 use Rattle.integer.specs.Tests.{cond-by}
+use Rattle.integer.specs.Members.{Has, has-below, has-gather}
 use Rattle.items.specs.declared.LoopMark.{LoopMark}
 use Rattle.items.specs.declared.LoopMark.the-variants as mark
 use Rattle.items.specs.declared.Ref.the-variants as ref
@@ -19,7 +20,6 @@ use Rattle.rules.specs.Rules.{markAt, isEndless, Closed}
 use Rattle.meaning.specs.Run.{Moment, Spot, Step, Way, here, stretch, again, next, spot, taken, backOf, placeAt, moveNo}
 use Rattle.meaning.specs.Judged.{before, waysOf, waysInto, wayIn, wayBack}
 use Rattle.meaning.specs.Facts.{Laid, Facts}
-use Rattle.meaning.specs.Lists.{Has, has-below, has-gather}
 
 -- ---- a step
 

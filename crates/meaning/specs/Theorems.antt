@@ -5,12 +5,16 @@ use mathlib.Core.Logic.{_↔_, _⊎_}
 use mathlib.Core.List.{List, _++_}
 use mathlib.Core.Bool.{true}
 use Prim.Native.Nat.{ℕ, _+_, _*_, _≤_, _<_}
+use native.Mathlib.Omega.{arith}
 use lib.IntN.{ℤ}
 use lib.Signed.{_≤ℤ_}
 use lib.ListN.{length, getD}
+use Rattle.integer.specs.Sizes.{size-within, Within}
 use Rattle.kinds.specs.declared.Kind.the-variants as kind
 use Rattle.kinds.specs.Kinds.{letterOf}
+use Rattle.kinds.specs.Table as table
 use Rattle.record.specs.Layout.{recordLength}
+use Rattle.counters.specs.Sum.{Counters, sum}
 use Rattle.items.specs.declared.LoopMark.the-variants as mark
 use Rattle.items.specs.declared.Guard.{Guard}
 use Rattle.items.specs.declared.Sentence.{Sentence}
@@ -20,12 +24,12 @@ use Rattle.plan.specs.Taking.{isTaken, runOf, cut}
 use Rattle.rules.specs.Rules.{markAt, Closed}
 use Rattle.rules.specs.Sound.{Sound}
 use Rattle.meaning.specs.declared.Judgement.{Judgement}
-use Rattle.meaning.specs.Run.{Moment, Counters, here, spot, counters, sum, guardAt}
+use Rattle.meaning.specs.Run.{Moment, here, spot, counters, guardAt}
 use Rattle.meaning.specs.Truth.{Trace, True}
-use Rattle.meaning.specs.Judged.{Finished, IsAccepted, Judged, numbersOf, marked, TrueAt, zeros}
+use Rattle.meaning.specs.Judged.{Finished, IsAccepted, Judged, numbersOf, marked, TrueAt, startOf}
 use Rattle.meaning.specs.Paper.{Means}
 use Rattle.meaning.specs.Files.{AllTaken, FileAccepted}
-use Rattle.meaning.specs.Facts.{Within, withRounds}
+use Rattle.meaning.specs.Facts.{withRounds}
 use Rattle.meaning.specs.Given.{facts}
 use Rattle.meaning.specs.Answers as answers
 use Rattle.meaning.specs.Second as second
@@ -71,13 +75,26 @@ same-truth = answers.same-truth
 
 -- ---- document 01's ceilings
 
--- before the end of the endless loop's first round no counter passes 640,000,000,000 either way, and no sum of a guard 3,000,000,000,000,000
-pub counter-ceiling : (c : Case) → Sound c → (m : Moment) → Early (itemsOf c .places) m → (j : ℕ) → Within 640000000000 (counters (itemsOf c) zeros m j)
-counter-ceiling c s = ceilings.counter-ceiling (itemsOf c) (facts c s)
+-- before the end of the endless loop's first round no counter passes 640,000,000,000 either way, and no sum of a guard 3,000,000,000,000,000;
+-- where the counters are within b at the start, and not all 0: b more, and 999 * b more for each counter
+pub counter-ceiling-from : (c : Case) → Sound c → (θ : Counters) (b : ℕ) → ((j : ℕ) → Within b (θ j)) →
+    (m : Moment) → Early (itemsOf c .places) m → (j : ℕ) → Within (640000000000 + b) (counters (itemsOf c) θ m j)
+counter-ceiling-from c s = ceilings.counter-ceiling (itemsOf c) (facts c s)
+
+pub sum-ceiling-from : (c : Case) → Sound c → (θ : Counters) (b : ℕ) → ((j : ℕ) → Within b (θ j)) →
+    (m : Moment) → Early (itemsOf c .places) m → (g : ℕ) →
+    Within (3000000000000000 + table.counters * 999 * b) (sum (guardAt (itemsOf c .guards) g .coefficients .at) (counters (itemsOf c) θ m))
+sum-ceiling-from c s = ceilings.sum-ceiling (itemsOf c) (facts c s)
+
+pub counter-ceiling : (c : Case) → Sound c → (m : Moment) → Early (itemsOf c .places) m → (j : ℕ) →
+    Within 640000000000 (counters (itemsOf c) (startOf (itemsOf c)) m j)
+unfolding startOf
+counter-ceiling c s = counter-ceiling-from c s (startOf (itemsOf c)) 0 (λ j. size-within 0 (startOf (itemsOf c) j) (omega arith))
 
 pub sum-ceiling : (c : Case) → Sound c → (m : Moment) → Early (itemsOf c .places) m → (g : ℕ) →
-    Within 3000000000000000 (sum (guardAt (itemsOf c .guards) g .coefficients .at) (counters (itemsOf c) zeros m))
-sum-ceiling c s = ceilings.sum-ceiling (itemsOf c) (facts c s)
+    Within 3000000000000000 (sum (guardAt (itemsOf c .guards) g .coefficients .at) (counters (itemsOf c) (startOf (itemsOf c)) m))
+unfolding startOf
+sum-ceiling c s = sum-ceiling-from c s (startOf (itemsOf c)) 0 (λ j. size-within 0 (startOf (itemsOf c) j) (omega arith))
 
 -- ---- demand 3 of the meaning
 

@@ -1,7 +1,7 @@
 -- Demand 3 of the meaning, for cases: a case with b rounds in one counted loop is accepted where those with a and with c rounds are, a ≤ b ≤ c.
 -- Assumes nothing.
 use mathlib.Core.Path.{_≡_, refl, sym, _∙_, ap, ap₂, subst}
-use mathlib.Core.Logic.{_↔_, _⊎_, inl, inr, ⊎-elim, Iff·trans, Iff·symm, Iff·and, Iff·not}
+use mathlib.Core.Logic.{_↔_, inl, inr, ⊎-elim, Iff·trans, Iff·symm, Iff·and, Iff·not}
 use mathlib.Core.List.{List, _++_}
 use mathlib.Core.Bool.{true}
 use Prim.Native.Nat.{ℕ, zero, suc, _+_, _-_, _≤_, _<_}
@@ -21,15 +21,18 @@ use Rattle.plan.specs.Cases.{Items, noItem}
 use Rattle.rules.specs.Rules.{markAt}
 use Rattle.integer.specs.Order.{up, down}
 use Rattle.integer.specs.Sums.{le-out, le-in, eq-in, le-or, add-rel, neg-rel}
-use Rattle.meaning.specs.Run.{Moment, here, spot, taken, Way, moveOf, Counters, update, counters, sum, Meets, guardAt}
+use Rattle.integer.specs.All.{All}
+use Rattle.integer.specs.Members.{all-map, all-zip}
+use Rattle.counters.specs.Sum.{Counters, sum}
+use Rattle.meaning.specs.Run.{Moment, here, spot, taken, Way, moveOf, update, counters, Meets, guardAt}
 use Rattle.meaning.specs.Truth.{Says, True, bit, Until, counted}
-use Rattle.meaning.specs.Judged.{All, IsAccepted, stateOf, Test, Passes, marksOf, Right, marked, root, TrueAt, traceOf}
+use Rattle.meaning.specs.Judged.{IsAccepted, stateOf, Test, Passes, marksOf, Right, marked, root, TrueAt, traceOf}
 use Rattle.meaning.specs.Facts.{Facts, Refers, placesWith, withRounds}
-use Rattle.meaning.specs.Lists.{all-map, all-zip, all-marks}
+use Rattle.meaning.specs.Lists.{all-grid}
 use Rattle.meaning.specs.Rounds.{same-move, same-state, same-marked, same-ways, same-tests, same-connects, same-closed, same-laid}
-use Rattle.meaning.specs.declared.Label.{Label}
+use Rattle.meaning.specs.Labels.{Label, labelOf}
 use Rattle.meaning.specs.Counting.{Gets}
-use Rattle.meaning.specs.Below.{below, labelOf, RightBelow, SaysBelow, until-labels}
+use Rattle.meaning.specs.Below.{below, RightBelow, SaysBelow, until-labels}
 use Rattle.meaning.specs.Stays.{in-plan}
 use Rattle.meaning.specs.Repeats.{Repeats, repeats}
 use Rattle.meaning.specs.Between.{Later, later, same, OneWay, one-way, sum-same, sum-plus, left, left-later, next-left, first-round, places-before, ways-before, places-later, ways-later, labels, gets-same, gets-one-way}
@@ -280,10 +283,10 @@ module _ (x : Items) (f : Facts x) (s l n back : ℕ) (held : s < length (x .pla
     rights-of : (k : ℕ) → IsAccepted (X k) θ → (i : ℕ) → i < length (x .sentences) → RightIn k i
     rights-of k h i g m =
         subst (λ f. (f i (here (spot (P k) m)) ≡ true) ↔ TrueAt (X k) θ i m) (same-marked x s (suc k))
-        ((all-marks (X k) .0 (h .0 .1) i (here (spot (P k) m)) g (in-plan (X k) (same-laid (x .places) s (suc k) (f .laid)) (h .0 .0 .0 .0 .0 .1) m)) .same m refl)
+        ((all-grid (length (X k .sentences)) (length (X k .places)) .0 (h .0 .1) i (here (spot (P k) m)) g (in-plan (X k) (same-laid (x .places) s (suc k) (f .laid)) (h .0 .0 .0 .0 .0 .1) m)) .same m refl)
 
     to-rights : (k : ℕ) → ((i : ℕ) → i < length (x .sentences) → RightIn k i) → All (Right (X k) θ) (marksOf (X k))
-    to-rights k h = all-marks (X k) .1 (λ i p g q. record {
+    to-rights k h = all-grid (length (X k .sentences)) (length (X k .places)) .1 (λ i p g q. record {
       same = λ m e.
           subst (λ f. (f i p ≡ true) ↔ TrueAt (X k) θ i m) (sym (same-marked x s (suc k))) (subst (λ z. (marked x i z ≡ true) ↔ TrueAt (X k) θ i m) e (h i g m));
     })

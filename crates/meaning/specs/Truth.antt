@@ -9,6 +9,7 @@ use lib.IntN.{ℤ, pos, _+ℤ_}
 use lib.Signed.{_≤ℤ_}
 use lib.ListN.{getD}
 use Rattle.kinds.specs.declared.Kind.the-variants as kind
+use Rattle.counters.specs.Sum.{Counters}
 use Rattle.items.specs.declared.Term.{Term}
 use Rattle.items.specs.declared.Term.the-variants as term
 use Rattle.items.specs.declared.Form.{Form}
@@ -16,7 +17,7 @@ use Rattle.items.specs.declared.Form.the-variants as form
 use Rattle.items.specs.declared.Guard.{Guard}
 use Rattle.items.specs.declared.Sentence.{Sentence}
 use Rattle.plan.specs.Cases.{noItem}
-use Rattle.meaning.specs.Run.{Moment, Counters, Meets, guardAt}
+use Rattle.meaning.specs.Run.{Moment, Meets, guardAt}
 
 -- what sentences can see of a run: at each moment the propositions, as a bit set, and the counters
 pub record Trace : Type 0 where

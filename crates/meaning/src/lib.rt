@@ -18,10 +18,3 @@ pub enum Judgement {
     // 35: the root, which isn't marked at place 0
     RootUnmarked(u8),
 }
-
-// What a place is for an until, as its marks tell: the goal is true there, the held sentence is, and what the terms add.
-pub struct Label {
-    pub goal: bool,
-    pub held: bool,
-    pub weight: i32,
-}

@@ -8,6 +8,7 @@ use lib.Dec.{eqb, leb, ltb}
 use lib.ListN.{length, take, drop, getD, set, length-drop, drop-of-length-le}
 use lib.Seq.{take-all, take-length, drop-length, drop-drop}
 use borrow.Author.Tests.{eqb-true, ne-eqb, leb-true, leb-false}
+use Rattle.integer.specs.Lowest.{lowest}
 use Rattle.record.specs.declared.Record.{Record}
 use Rattle.record.specs.Layout.{recordLength, recordOf}
 use Rattle.kinds.specs.declared.Kind.{Kind}
@@ -22,7 +23,8 @@ use Rattle.items.specs.Items.{Item, itemOf}
 use Rattle.faults.specs.declared.Head.{Head}
 use Rattle.faults.specs.declared.Head.the-variants.{Of, Refused}
 use Rattle.faults.specs.declared.Answer.{Answer}
-use Rattle.faults.specs.declared.Answer.the-variants.{Taken, NotARecord, NoLineFeed, NoSuchKind, Misspelled, Misfilled, OutOfRange, OutOfOrder, NoRoom, NotThere, Misplaced, WrongWayIn}
+use Rattle.faults.specs.declared.Answer.the-variants.{Taken, NotARecord, NoLineFeed, OutOfOrder, NoRoom}
+use Rattle.faults.specs.Answers.{numberOf, fieldOf, testOrder, turnOf, in-order}
 use Rattle.faults.specs.Input.{fieldsAnswer, lineFeed, namedHead, endedHead, headOf}
 use Rattle.plan.specs.declared.Loops.{Loops}
 use Rattle.plan.specs.declared.Case.{Case}
@@ -169,18 +171,8 @@ cut-one bs h =
     ∙ ap (λ r. r ∷ []) (take-all recordLength bs (omega arith))
 
 is-so : (a : Answer) → isTaken a ≡ true → Taken ≡ a
-is-so Taken h = refl
-is-so NotARecord h = cc
-is-so NoLineFeed h = cc
-is-so NoSuchKind h = cc
-is-so (Misspelled f) h = cc
-is-so (Misfilled f) h = cc
-is-so (OutOfRange f) h = cc
-is-so OutOfOrder h = cc
-is-so NoRoom h = cc
-is-so (NotThere f) h = cc
-is-so (Misplaced f) h = cc
-is-so WrongWayIn h = cc
+unfolding lowest
+is-so a h = sym (ap (λ n. getD (testOrder (fieldOf a)) (turnOf n) Taken) (eqb-true (numberOf a) 0 h)) ∙ in-order a
 
 abbrev answered : Run → Result
 answered r = record { case = r .case; answer = r .answer }

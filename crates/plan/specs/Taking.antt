@@ -1,6 +1,6 @@
 -- What taking a record hands back: the results that come from the state (21 to 26), each stage named, and the case after it.
 use mathlib.Core.List.{List, [], _∷_}
-use mathlib.Core.Bool.{Bool, true, false, cond, _&&_, _||_}
+use mathlib.Core.Bool.{Bool, cond, _&&_, _||_}
 use Prim.Native.Nat.{ℕ, zero, suc, _+_}
 use lib.Dec.{eqb, leb, ltb}
 use lib.ListN.{length, take, drop}
@@ -15,10 +15,11 @@ use Rattle.kinds.specs.Kinds.{rankOf, countOf}
 use Rattle.kinds.specs.Table.{natural, isNumber, isBlank, shapeOf}
 use Rattle.faults.specs.declared.Fault.the-variants as fault
 use Rattle.faults.specs.declared.Answer.{Answer}
-use Rattle.faults.specs.declared.Answer.the-variants.{Taken, NotARecord, NoLineFeed, NoSuchKind, Misspelled, Misfilled, OutOfRange, OutOfOrder, NoRoom, NotThere, Misplaced, WrongWayIn}
+use Rattle.faults.specs.declared.Answer.the-variants.{Taken, OutOfOrder, NoRoom, NotThere, Misplaced, WrongWayIn}
 use Rattle.faults.specs.declared.Head.{Head}
 use Rattle.faults.specs.declared.Head.the-variants.{Of, Refused}
 use Rattle.faults.specs.Faults.{lowestFault}
+use Rattle.faults.specs.Answers.{numberOf}
 use Rattle.faults.specs.Input.{headOf, fieldsAnswer, orElse}
 use Rattle.plan.specs.declared.Loops.{Loops}
 use Rattle.plan.specs.declared.Case.{Case}
@@ -84,18 +85,7 @@ orderAnswer n l s r = cond (ltb (rankOf (s .kind)) (lastRank n)) OutOfOrder (roo
 
 -- whether an answer says that the record is taken
 abbrev pub isTaken : Answer → Bool
-isTaken Taken = true
-isTaken NotARecord = false
-isTaken NoLineFeed = false
-isTaken NoSuchKind = false
-isTaken (Misspelled f) = false
-isTaken (Misfilled f) = false
-isTaken (OutOfRange f) = false
-isTaken OutOfOrder = false
-isTaken NoRoom = false
-isTaken (NotThere f) = false
-isTaken (Misplaced f) = false
-isTaken WrongWayIn = false
+isTaken a = eqb (numberOf a) 0
 
 -- why a head is refused
 abbrev pub refusalOf : Head → Answer

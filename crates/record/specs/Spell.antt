@@ -8,17 +8,23 @@ use lib.ListN.{length, replicate}
 use Rattle.record.specs.Spelling.{space, minus, digit}
 use Rattle.record.specs.Layout.{width}
 
--- the decimal digits of n, at most f of them, with no leading zero
-unfoldable pub numeral : ℕ → ℕ → List ℕ
-numeral zero n = []
-numeral (suc f) n = cond (ltb n 10) (digit n ∷ []) (numeral f (n / 10) ++ (digit (n % 10) ∷ []))
+-- the decimal digits of n, or the last f where it has more
+unfoldable pub lastDigits : ℕ → ℕ → List ℕ
+lastDigits zero n = []
+lastDigits (suc f) n =
+    let more = lastDigits f (n / 10) ++ (digit (n % 10) ∷ []) in
+    cond (ltb n 10) (digit n ∷ []) more
+
+-- the decimal digits of n, with no leading zero: all of them, as no number has more than n + 1
+unfoldable pub numeral : ℕ → List ℕ
+numeral n = lastDigits (suc n) n
 
 -- the digits, with a minus directly before the first where the number is below 0
 unfoldable pub token : ℤ → List ℕ
-token (pos n) = numeral width n
-token (negsuc n) = minus ∷ numeral width (suc n)
+token (pos n) = numeral n
+token (negsuc n) = minus ∷ numeral (suc n)
 
--- set to the right
+-- set to the right; a number that a field cannot spell is longer than a field
 unfoldable pub spell : ℤ → List ℕ
 spell z = replicate (width - length (token z)) space ++ token z
 

@@ -1,7 +1,6 @@
 // A record of a case file: a kind letter, eight fields of seven bytes and a line feed.
 ghost use mathlib.Core.Path.{_≡_};
-ghost use Prim.Native.Nat.{ℕ, _+_, _≤_, _<_, _^_};
-ghost use lib.IntN.{pos};
+ghost use Prim.Native.Nat.{_+_, _≤_, _<_, _^_};
 ghost use lib.ListN.{length, drop, getD};
 ghost use Rattle.record.specs.Spelling.{contentOf, leading, digits};
 ghost use Rattle.record.specs.Layout.{width, recordLength, recordOf};

@@ -10,10 +10,10 @@ use lib.Dec.{lit<, lit≤}
 use lib.IntN.{ℤ, pos, negsuc}
 use lib.Signed.{ltZ, leZ}
 use lib.ListN.{length, getD, take, drop, replicate, length-drop, List·getD-eq-default}
-use lib.Seq.{ext-getD, getD-drop}
+use lib.Seq.{getD-drop}
 use Rattle.integer.specs.Order.{zarith}
 use Rattle.integer.specs.Tests.{neither}
-use Rattle.integer.specs.Tab.{tab, length-tab, at-tab}
+use Rattle.integer.specs.Tab.{tab, tab-again}
 use Rattle.record.specs.declared.Content.{Content}
 use Rattle.record.specs.declared.Content.the-variants.{Blank, Number, Bad}
 use Rattle.record.specs.declared.Field.{Field}
@@ -262,14 +262,6 @@ module _ (g : ℕ → Content) where
   again kind.Move = move-again
   again kind.Sentence = sentence-again
   again kind.Place = place-again
-
--- a list by its elements
-pub tab-again : {A : Type 0} (d : A) (r : List A) (n : ℕ) → length r ≡ n → tab n 0 (λ j. getD r j d) ≡ r
-tab-again {A} d r n l =
-    let g : ℕ → A = λ j. getD r j d in
-    ext-getD d (tab n 0 g) r (length-tab g n 0 ∙ sym l) (λ j h.
-    let e : 0 + j ≡ j = omega arith in
-    at-tab g n 0 j d (rw (length-tab g n 0) at h) ∙ ap g e)
 
 pub fields-again : (k : Kind) (r : List Field) → length r ≡ fields → Fit k r → rowOf k (itemOf k r) ≡ r
 fields-again k r l =

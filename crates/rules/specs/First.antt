@@ -9,6 +9,7 @@ use native.Mathlib.Omega.{arith}
 use lib.Dec.{eqb, leb, ltb, lit≤, eqb·suc-zero}
 use lib.ListN.{length, getD}
 use borrow.Author.Tests.{ltb-true, lt-ltb}
+use Rattle.integer.specs.Lowest.{lowest}
 use Rattle.integer.specs.Tests.{Tells, cond-by, tells-lt, tells-le, tells-and, tells-or}
 use Rattle.record.specs.Layout.{recordLength, recordOf}
 use Rattle.kinds.specs.declared.Kind.{Kind}
@@ -19,7 +20,7 @@ use Rattle.kinds.specs.Table.{shapeOf, ruleAt, natural, isNumber, isBlank}
 use Rattle.faults.specs.declared.Fault.the-variants as fault
 use Rattle.faults.specs.declared.Answer.{Answer}
 use Rattle.faults.specs.declared.Answer.the-variants.{Taken, NotARecord, NoLineFeed, NoSuchKind, Misspelled, Misfilled, OutOfRange, OutOfOrder, NoRoom, NotThere, Misplaced, WrongWayIn}
-use Rattle.faults.specs.Answers.{numberOf, fieldOf}
+use Rattle.faults.specs.Answers.{numberOf, fieldOf, testOrder, turnOf, in-order}
 use Rattle.faults.specs.Input.{lineFeed, wrongForm, rangeAnswer, extraAnswer, missingAnswer, formAnswer, fieldsAnswer}
 use Rattle.plan.specs.declared.Loops.{Loops}
 use Rattle.plan.specs.declared.Case.{Case}
@@ -30,7 +31,7 @@ use Rattle.rules.specs.Sound.{Sound, loopsFrom}
 use Rattle.rules.specs.Held.{counts-are}
 use Rattle.rules.specs.Loops.{closed-is, open-is}
 use Rattle.rules.specs.Letters.{one-kind, by-head}
-use Rattle.rules.specs.Stages.{Nowhere, no-lowest, numbered, known, Passed, Ends, renumbered, start, more, first, refuses, tested, fault-tested}
+use Rattle.rules.specs.Stages.{Nowhere, no-lowest, numbered, Passed, Ends, renumbered, start, more, none, first, refuses, tested, fault-tested}
 
 -- a record's shape, if it is of kind k
 abbrev shaped : Kind → List ℕ → Shape
@@ -102,21 +103,18 @@ WrongFill bs j f = Lowest (IsMissing j bs) f ⊎ (Nowhere (IsMissing j bs) × Lo
 
 module _ (x : Items) (bs : List ℕ) (k : Kind) (is : IsA k bs) where
   range-ends : Passed x bs 16 → Ends x bs 21 (rangeAnswer (shaped k bs) (recordOf bs))
-  unfolding rangeAnswer
+  unfolding rangeAnswer lowest
   range-ends p =
       fault-tested x bs 21 fault.OutOfRange (shaped k bs) OutOfRange
       (λ g l. first x bs (OutOfRange g) p (k, is, l))
-      (λ none.
-      let past : Passed x bs 17 =
-      more x bs 16 (λ f h. no-lowest none (of-kind bs k is (λ j. Lowest (IsOutside j bs) f) (h .0) (h .1) (h .2))) p in
-      inl (refl, more x bs 20 (λ f h. h) (more x bs 19 (λ f h. h) (more x bs 18 (λ f h. h) (more x bs 17 (λ f h. h) past)))))
+      (λ none. inl (refl, more x bs 16 21 refl (λ f h. no-lowest none (of-kind bs k is (λ j. Lowest (IsOutside j bs) f) (h .0) (h .1) (h .2))) p))
 
   extra-ends : HasForm k bs → Nowhere (IsMissing k bs) → Passed x bs 15 → Ends x bs 21 (extraAnswer (shaped k bs) (recordOf bs))
-  unfolding extraAnswer
+  unfolding extraAnswer lowest
   extra-ends form full p =
       fault-tested x bs 21 fault.Extra (shaped k bs) Misfilled
       (λ g l. first x bs (Misfilled g) p (k, is, form, inr (full, l)))
-      (λ none. range-ends (more x bs 15 (λ f h.
+      (λ none. range-ends (more x bs 15 16 refl (λ f h.
       ⊎-elim (no-lowest full) (λ l. no-lowest none (l .1)) (of-kind bs k is (λ j. WrongFill bs j f) (h .0) (h .1) (h .3))) p))
 
   missing-ends : HasForm k bs → Passed x bs 15 → Ends x bs 21 (missingAnswer (shaped k bs) (recordOf bs))
@@ -127,53 +125,54 @@ module _ (x : Items) (bs : List ℕ) (k : Kind) (is : IsA k bs) where
       (λ full. extra-ends form full p)
 
   form-ends : Passed x bs 15 → Ends x bs 21 (formAnswer (shaped k bs) (recordOf bs))
-  unfolding formAnswer
+  unfolding formAnswer lowest
   form-ends p =
       cond-by (Ends x bs 21) (wrongForm (shaped k bs) (recordOf bs)) {x = OutOfRange 1} {y = missingAnswer (shaped k bs) (recordOf bs)}
       (λ e. inr (first x bs (OutOfRange 1)
-      (more x bs 15 (λ f h. false≢true (sym (of-kind bs k is (λ j. HasForm j bs) (h .0) (h .1) (h .2)) ∙ e)) p)
+      (more x bs 15 16 refl (λ f h. false≢true (sym (of-kind bs k is (λ j. HasForm j bs) (h .0) (h .1) (h .2)) ∙ e)) p)
       (k, is, record { counted = lit≤ tt; holds = form-outside bs k e; before = λ g l m w. omega arith })))
       (λ e. missing-ends e p)
 
   fields-end : Passed x bs 14 → Ends x bs 21 (fieldsAnswer (shaped k bs) (recordOf bs))
-  unfolding fieldsAnswer
+  unfolding fieldsAnswer lowest
   fields-end p =
       fault-tested x bs 21 fault.Misspelled (shaped k bs) Misspelled
       (λ g l. first x bs (Misspelled g) p l)
-      (λ none. form-ends (more x bs 14 (λ f l. no-lowest none l) p))
+      (λ none. form-ends (more x bs 14 15 refl (λ f l. no-lowest none l) p))
 
 -- ---- the results that come from the state
 
 module _ (x : Items) (bs : List ℕ) (l : Loops)
     (closed : Tells (isClosed l (length (x .places))) (Closed x))
     (opened : Tells (isOpen l (length (x .places))) (Open x)) where
-  way-ends : IsA Place bs → Passed x bs 26 → Ends x bs 27 (wayAnswer (length (x .places)) (recordOf bs .fields))
-  unfolding wayAnswer
+  way-ends : IsA Place bs → Passed x bs 26 → Ends x bs 0 (wayAnswer (length (x .places)) (recordOf bs .fields))
+  unfolding wayAnswer lowest
   way-ends is p =
-      tested x bs 27 _ WrongWayIn (tells-way (length (x .places)) (isNumber (contentAt bs 2)) (isBlank (contentAt bs 2)))
+      tested x bs 0 _ WrongWayIn (tells-way (length (x .places)) (isNumber (contentAt bs 2)) (isBlank (contentAt bs 2)))
       (λ w. first x bs WrongWayIn p (is, w))
-      (λ right. inl (refl, more x bs 26 (λ f h. right (h .1)) p))
+      (λ right. inl (refl, more x bs 26 0 refl (λ f h. right (h .1)) p))
 
-  mark-ends : IsA Place bs → (Closed x → ⊥) → Passed x bs 25 → Ends x bs 27 (markAnswer l (length (x .places)) (recordOf bs .fields))
-  unfolding markAnswer
+  mark-ends : IsA Place bs → (Closed x → ⊥) → Passed x bs 25 → Ends x bs 0 (markAnswer l (length (x .places)) (recordOf bs .fields))
+  unfolding markAnswer lowest
   mark-ends is still p =
       let t : Bool = isLong (length (x .places)) (natural (contentAt bs 4)) in
-      tested x bs 27 _ (Misplaced 4)
+      tested x bs 0 _ (Misplaced 4)
       (tells-and (isNumber (contentAt bs 4)) _ (λ e. e, λ e. e) (tells-or (isOpen l (length (x .places))) t opened (tells-lt _ _)))
       (λ w. first x bs (Misplaced 4) p (is, inr (still, w, refl)))
-      (λ right. way-ends is (more x bs 25 (λ f h. ⊎-elim (λ c. still (c .0)) (λ m. right (m .1)) (h .1)) p))
+      (λ right. way-ends is (more x bs 25 26 refl (λ f h. ⊎-elim (λ c. still (c .0)) (λ m. right (m .1)) (h .1)) p))
 
-  place-ends : IsA Place bs → Passed x bs 25 → Ends x bs 27 (placeAnswer l (length (x .places)) (recordOf bs .fields))
+  place-ends : IsA Place bs → Passed x bs 25 → Ends x bs 0 (placeAnswer l (length (x .places)) (recordOf bs .fields))
   unfolding placeAnswer
   place-ends is p =
-      tested x bs 27 _ (Misplaced 0) closed
+      tested x bs 0 _ (Misplaced 0) closed
       (λ c. first x bs (Misplaced 0) p (is, inl (c, refl)))
       (λ still. mark-ends is still p)
 
-  no-place : (IsA Place bs → ⊥) → Passed x bs 25 → Ends x bs 27 Taken
-  no-place other p = inl (refl, more x bs 26 (λ f h. other (h .0)) (more x bs 25 (λ f h. other (h .0)) p))
+  no-place : (IsA Place bs → ⊥) → Passed x bs 25 → Ends x bs 0 Taken
+  unfolding lowest
+  no-place other p = inl (refl, more x bs 26 0 refl (λ f h. other (h .0)) (more x bs 25 26 refl (λ f h. other (h .0)) p))
 
-  layout-ends : (k : Kind) → IsA k bs → Passed x bs 25 → Ends x bs 27 (layoutAnswer k (countsOf x) l (recordOf bs .fields))
+  layout-ends : (k : Kind) → IsA k bs → Passed x bs 25 → Ends x bs 0 (layoutAnswer k (countsOf x) l (recordOf bs .fields))
   layout-ends State is p = no-place (λ h. omega arith) p
   layout-ends Guard is p = no-place (λ h. omega arith) p
   layout-ends Move is p = no-place (λ h. omega arith) p
@@ -181,33 +180,31 @@ module _ (x : Items) (bs : List ℕ) (l : Loops)
   layout-ends Place is p = place-ends is p
 
   module _ (k : Kind) (is : IsA k bs) where
-    there-ends : Passed x bs 23 → Ends x bs 27 (thereAnswer (countsOf x) l (shaped k bs) (recordOf bs))
-    unfolding thereAnswer shapeOf
+    there-ends : Passed x bs 23 → Ends x bs 0 (thereAnswer (countsOf x) l (shaped k bs) (recordOf bs))
+    unfolding thereAnswer shapeOf lowest
     there-ends p =
-        fault-tested x bs 27 (fault.NotThere (countsOf x)) (shaped k bs) NotThere
+        fault-tested x bs 0 (fault.NotThere (countsOf x)) (shaped k bs) NotThere
         (λ g w. first x bs (NotThere g) p (k, is, w))
-        (λ none.
-        let past : Passed x bs 24 =
-        more x bs 23 (λ f h. no-lowest none (of-kind bs k is (λ j. Lowest (IsNotThere x j bs) f) (h .0) (h .1) (h .2))) p in
-        layout-ends k is (more x bs 24 (λ f h. h) past))
+        (λ none. layout-ends k is
+        (more x bs 23 25 refl (λ f h. no-lowest none (of-kind bs k is (λ j. Lowest (IsNotThere x j bs) f) (h .0) (h .1) (h .2))) p))
 
-    room-ends : Passed x bs 22 → Ends x bs 27 (roomAnswer (countsOf x) l (shaped k bs) (recordOf bs))
-    unfolding roomAnswer shapeOf
+    room-ends : Passed x bs 22 → Ends x bs 0 (roomAnswer (countsOf x) l (shaped k bs) (recordOf bs))
+    unfolding roomAnswer shapeOf lowest
     room-ends p =
-        tested x bs 27 _ NoRoom (tells-room x k)
+        tested x bs 0 _ NoRoom (tells-room x k)
         (λ w. first x bs NoRoom p (k, is, w))
-        (λ room. there-ends (more x bs 22 (λ f h. room (of-kind bs k is (λ j. roomOf j ≤ length (listOf j x)) (h .0) (h .1) (h .2))) p))
+        (λ room. there-ends (more x bs 22 23 refl (λ f h. room (of-kind bs k is (λ j. roomOf j ≤ length (listOf j x)) (h .0) (h .1) (h .2))) p))
 
-    order-ends : Passed x bs 21 → Ends x bs 27 (orderAnswer (countsOf x) l (shaped k bs) (recordOf bs))
-    unfolding orderAnswer shapeOf
+    order-ends : Passed x bs 21 → Ends x bs 0 (orderAnswer (countsOf x) l (shaped k bs) (recordOf bs))
+    unfolding orderAnswer shapeOf lowest
     order-ends p =
-        tested x bs 27 _ OutOfOrder (tells-order x (rankOf k))
+        tested x bs 0 _ OutOfOrder (tells-order x (rankOf k))
         (λ w. first x bs OutOfOrder p (k, is, w))
-        (λ right. room-ends (more x bs 21 (λ f h. right (of-kind bs k is (λ j. Above x (rankOf j)) (h .0) (h .1) (h .2))) p))
+        (λ right. room-ends (more x bs 21 22 refl (λ f h. right (of-kind bs k is (λ j. Above x (rankOf j)) (h .0) (h .1) (h .2))) p))
 
   -- ---- the whole
 
-  kind-ends : (k : Kind) → IsA k bs → Passed x bs 14 → Ends x bs 27 (answerOf (countsOf x) l k (recordOf bs))
+  kind-ends : (k : Kind) → IsA k bs → Passed x bs 14 → Ends x bs 0 (answerOf (countsOf x) l k (recordOf bs))
   unfolding answerOf
   kind-ends k is p =
       let own = fieldsAnswer (shaped k bs) (recordOf bs) in
@@ -216,26 +213,26 @@ module _ (x : Items) (bs : List ℕ) (l : Loops)
 -- no refusal applies and the record is taken, or it gets the first that applies
 pub answers-first : (c : Case) (bs : List ℕ) → Sound c →
     ((isTaken (takenOf c bs .answer) ≡ true) × ((a : Answer) → Applies (itemsOf c) bs a → ⊥)) ⊎ IsFirst (itemsOf c) bs (takenOf c bs .answer)
-unfolding takenOf takenAs
+unfolding takenOf takenAs lowest
 answers-first c bs s =
-    ⊎-elim (λ t. inl (t .0, λ a. t .1 a (known a .below))) (λ h. inr h)
-    (by-head bs (λ h. Ends x bs 27 (takenBy c h bs .answer))
+    ⊎-elim (λ t. inl (t .0, none x bs (t .1))) (λ h. inr h)
+    (by-head bs (λ h. Ends x bs 0 (takenBy c h bs .answer))
     (λ e. inr (first x bs NotARecord (start x bs) e))
     (λ w e. inr (first x bs NoLineFeed (whole w) e))
     (λ w d e. inr (first x bs NoSuchKind (ended w d) e))
     (λ w d k is.
-    subst₂ (λ n l. Ends x bs 27 (answerOf n l k (recordOf bs))) (sym (counts-are c s)) (sym (s .derived))
+    subst₂ (λ n l. Ends x bs 0 (answerOf n l k (recordOf bs))) (sym (counts-are c s)) (sym (s .derived))
     (kind-ends x bs (loopsFrom noLoops 0 (x .places)) (closed-is x (s .loops)) (open-is x (s .loops)) k is
-    (more x bs 13 (λ f h. h k is) (ended w d)))))
+    (more x bs 13 14 refl (λ f h. h k is) (ended w d)))))
   where
     x : Items
     x = itemsOf c
 
     whole : length bs ≡ recordLength → Passed x bs 12
-    whole w = more x bs 11 (λ f h. h w) (start x bs)
+    whole w = more x bs 11 12 refl (λ f h. h w) (start x bs)
 
     ended : length bs ≡ recordLength → getD bs (recordLength - 1) 0 ≡ lineFeed → Passed x bs 13
-    ended w d = more x bs 12 (λ f h. h d) (whole w)
+    ended w d = more x bs 12 13 refl (λ f h. h d) (whole w)
 
 -- ---- there is one first
 
@@ -251,6 +248,7 @@ both-ways f g h k v w = ⊎-elim (λ a. ⊎-elim (f a) (g a) w) (λ b. ⊎-elim 
 
 -- two answers with one number that both apply have one field
 field-one : (x : Items) (bs : List ℕ) (a : Answer) (g : ℕ) → Applies x bs a → Applies x bs (numbered (numberOf a) g) → a ≡ numbered (numberOf a) g
+unfolding lowest
 field-one x bs Taken g v w = refl
 field-one x bs NotARecord g v w = refl
 field-one x bs NoLineFeed g v w = refl
@@ -271,8 +269,8 @@ field-one x bs WrongWayIn g v w = refl
 
 pub first-one : (x : Items) (bs : List ℕ) (a b : Answer) → IsFirst x bs a → IsFirst x bs b → a ≡ b
 first-one x bs a b v w =
-    let e : numberOf a ≡ numberOf b =
-    neither-less (numberOf a) (numberOf b) (λ h. w .earlier a h (v .applies)) (λ h. v .earlier b h (w .applies)) in
+    let e : turnOf (numberOf a) ≡ turnOf (numberOf b) =
+    neither-less _ _ (λ h. w .earlier a h (v .applies)) (λ h. v .earlier b h (w .applies)) in
     field-one x bs a (fieldOf b) (v .applies) (renumbered x bs b (numberOf a) (sym e) (w .applies))
-    ∙ ap (λ n. numbered n (fieldOf b)) e
-    ∙ known b .made
+    ∙ ap (λ i. getD (testOrder (fieldOf b)) i Taken) e
+    ∙ in-order b

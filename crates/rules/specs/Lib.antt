@@ -11,4 +11,3 @@ pub mod Kept
 pub mod Spelled
 pub mod Bounds
 pub mod Theorems
-pub mod Examples

@@ -17,7 +17,7 @@ use Rattle.kinds.specs.Table.{shapeOf, ruleAt, natural, isNumber, isBlank}
 use Rattle.faults.specs.declared.Answer.{Answer}
 use Rattle.faults.specs.declared.Answer.the-variants.{Taken, NotARecord, NoLineFeed, NoSuchKind, Misspelled, Misfilled, OutOfRange, OutOfOrder, NoRoom, NotThere, Misplaced, WrongWayIn}
 use Rattle.faults.specs.Faults.{misspelled, missing, extra, outside, notThere}
-use Rattle.faults.specs.Answers.{numberOf}
+use Rattle.faults.specs.Answers.{Before}
 use Rattle.faults.specs.Input.{lineFeed, wrongForm}
 use Rattle.items.specs.declared.LoopMark.{LoopMark}
 use Rattle.items.specs.declared.LoopMark.the-variants as mark
@@ -145,7 +145,7 @@ Applies x bs (Misplaced f) =
     IsA kind.Place bs × ((Closed x × (f ≡ 0)) ⊎ ((Closed x → ⊥) × MarkMisplaced x bs × (f ≡ 4)))
 Applies x bs WrongWayIn = IsA kind.Place bs × WayInWrong x bs
 
--- a is the first refusal that applies, in document 01's order, which is that of its numbers
+-- a is the first refusal that applies, in document 01's order
 pub record IsFirst (x : Items) (bs : List ℕ) (a : Answer) : Type 0 where
   pub applies : Applies x bs a
-  pub earlier : (b : Answer) → numberOf b < numberOf a → Applies x bs b → ⊥
+  pub earlier : (b : Answer) → Before b a → Applies x bs b → ⊥

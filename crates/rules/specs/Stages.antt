@@ -1,4 +1,4 @@
--- How an answer is shown to be the first that applies: its refusals are passed one number after another, each by its test. Assumes nothing.
+-- How an answer is shown to be the first that applies: the refusals are passed one after another, in the order of the tests. Assumes nothing.
 use mathlib.Core.Path.{_≡_, refl, _∙_, sym, ap, subst}
 use mathlib.Core.Logic.{_⊎_, inr, ⊎-elim}
 use mathlib.Core.List.{List}
@@ -6,9 +6,9 @@ use mathlib.Core.Bool.{Bool, true, false, cond, true≢false}
 use Prim.Native.Nat.{ℕ, zero, suc, _+_, _-_, _≤_, _<_}
 use native.Mathlib.Nat.{eq-or-lt-of-le, le-of-suc-le-suc}
 use native.Mathlib.Omega.{arith}
-use lib.Dec.{eqb, ltb, lit<, lit≤}
-use lib.ListN.{length, List·getD-eq-default}
-use borrow.Author.Tests.{ltb-true, ltb-false, lt-ltb, ne-eqb}
+use lib.Dec.{eqb, ltb, lit≤}
+use lib.ListN.{length, getD, List·getD-eq-default}
+use borrow.Author.Tests.{ltb-true, ltb-false, ne-eqb}
 use Rattle.integer.specs.Lowest.{lowest, lowest-le, lowest-holds, lowest-before, lowest-none}
 use Rattle.integer.specs.Tab.{length-tab}
 use Rattle.integer.specs.Tests.{cond-by, Tells, tells-not}
@@ -24,8 +24,8 @@ use Rattle.kinds.specs.Table.{rowOf, ruleAt, counters, inFilled}
 use Rattle.faults.specs.declared.Fault.{Fault}
 use Rattle.faults.specs.declared.Fault.the-variants as fault
 use Rattle.faults.specs.declared.Answer.{Answer}
-use Rattle.faults.specs.declared.Answer.the-variants.{Taken, NotARecord, NoLineFeed, NoSuchKind, Misspelled, Misfilled, OutOfRange, OutOfOrder, NoRoom, NotThere, Misplaced, WrongWayIn}
-use Rattle.faults.specs.Answers.{numberOf, fieldOf}
+use Rattle.faults.specs.declared.Answer.the-variants.{Taken}
+use Rattle.faults.specs.Answers.{numberOf, fieldOf, testOrder, turnOf, in-order}
 use Rattle.faults.specs.Faults.{hasFault, faultAt, lowestFault}
 use Rattle.faults.specs.Input.{orElse}
 use Rattle.plan.specs.Cases.{Items}
@@ -96,69 +96,46 @@ past-fault f s bs k h =
 
 -- the answer with number n and field f; Taken where no refusal has that number
 abbrev pub numbered : ℕ → ℕ → Answer
-numbered n f =
-    cond (ltb n 11) Taken
-    (cond (ltb n 12) NotARecord
-    (cond (ltb n 13) NoLineFeed
-    (cond (ltb n 14) NoSuchKind
-    (cond (ltb n 15) (Misspelled f)
-    (cond (ltb n 16) (Misfilled f)
-    (cond (ltb n 17) (OutOfRange f)
-    (cond (ltb n 21) Taken
-    (cond (ltb n 22) OutOfOrder
-    (cond (ltb n 23) NoRoom
-    (cond (ltb n 24) (NotThere f) (cond (ltb n 25) Taken (cond (ltb n 26) (Misplaced f) WrongWayIn))))))))))))
-
--- its number is below 27, it is made from its number and field, and it is Taken where its number is 0
-pub record Known (a : Answer) : Type 0 where
-  pub below : numberOf a < 27
-  pub made : numbered (numberOf a) (fieldOf a) ≡ a
-  pub taken : isTaken a ≡ eqb (numberOf a) 0
-
-pub known : (a : Answer) → Known a
-known Taken = record { below = lit< tt; made = refl; taken = refl }
-known NotARecord = record { below = lit< tt; made = refl; taken = refl }
-known NoLineFeed = record { below = lit< tt; made = refl; taken = refl }
-known NoSuchKind = record { below = lit< tt; made = refl; taken = refl }
-known (Misspelled f) = record { below = lit< tt; made = refl; taken = refl }
-known (Misfilled f) = record { below = lit< tt; made = refl; taken = refl }
-known (OutOfRange f) = record { below = lit< tt; made = refl; taken = refl }
-known OutOfOrder = record { below = lit< tt; made = refl; taken = refl }
-known NoRoom = record { below = lit< tt; made = refl; taken = refl }
-known (NotThere f) = record { below = lit< tt; made = refl; taken = refl }
-known (Misplaced f) = record { below = lit< tt; made = refl; taken = refl }
-known WrongWayIn = record { below = lit< tt; made = refl; taken = refl }
+numbered n f = getD (testOrder f) (turnOf n) Taken
 
 -- ---- the first refusal that applies
 
 module _ (x : Items) (bs : List ℕ) where
-  -- no refusal with a number below n applies
+  -- no refusal that is tested before result n applies
   abbrev pub Passed : ℕ → Type 0
-  Passed n = (a : Answer) → numberOf a < n → Applies x bs a → ⊥
+  Passed n = (a : Answer) → turnOf (numberOf a) < turnOf n → Applies x bs a → ⊥
 
-  -- a is where the tests end: no refusal below n applies and it is Taken, or it is the first refusal that applies
+  -- a is where the tests before n end: none of their refusals applies and it is Taken, or it is the first refusal that applies
   abbrev pub Ends : ℕ → Answer → Type 0
   Ends n a = ((isTaken a ≡ true) × Passed n) ⊎ IsFirst x bs a
 
-  pub renumbered : (a : Answer) (n : ℕ) → numberOf a ≡ n → Applies x bs a → Applies x bs (numbered n (fieldOf a))
-  renumbered a n e = subst (Applies x bs) (sym (known a .made) ∙ ap (λ m. numbered m (fieldOf a)) e)
+  pub renumbered : (a : Answer) (n : ℕ) → turnOf (numberOf a) ≡ turnOf n → Applies x bs a → Applies x bs (numbered n (fieldOf a))
+  renumbered a n e = subst (Applies x bs) (sym (in-order a) ∙ ap (λ i. getD (testOrder (fieldOf a)) i Taken) e)
 
-  -- the first number is 11
+  -- nothing is tested before 11
   pub start : Passed 11
-  start a h p =
-      let e : numbered (numberOf a) (fieldOf a) ≡ Taken = rw (lt-ltb (numberOf a) 11 h) in
-      subst (Applies x bs) (sym (known a .made) ∙ e) p
+  unfolding lowest
+  start a h p = omega arith
 
-  pub more : (n : ℕ) → ((f : ℕ) → Applies x bs (numbered n f) → ⊥) → Passed n → Passed (suc n)
-  more n r p a h w =
-      ⊎-elim (λ e. r (fieldOf a) (renumbered a n e w)) (λ l. p a l w) (eq-or-lt-of-le (le-of-suc-le-suc h))
+  -- m is tested after n
+  pub more : (n m : ℕ) → turnOf m ≡ suc (turnOf n) → ((f : ℕ) → Applies x bs (numbered n f) → ⊥) → Passed n → Passed m
+  more n m s r p a h w =
+      ⊎-elim (λ e. r (fieldOf a) (renumbered a n e w)) (λ l. p a l w) (eq-or-lt-of-le (le-of-suc-le-suc (rw s at h)))
+
+  -- all are passed
+  pub none : Passed 0 → (a : Answer) → Applies x bs a → ⊥
+  unfolding lowest
+  none p a w =
+      ⊎-elim (λ e. renumbered a 0 e w) (λ l. p a l w)
+      (eq-or-lt-of-le (lowest-le (λ i. eqb (numberOf (getD (testOrder 0) i Taken)) (numberOf a)) (turnOf 0)))
 
   pub first : (a : Answer) → Passed (numberOf a) → Applies x bs a → IsFirst x bs a
   first a p w = record { applies = w; earlier = p }
 
   -- what applies is no Taken
   pub refuses : (a : Answer) → Applies x bs a → isTaken a ≡ false
-  refuses a w = known a .taken ∙ ne-eqb (numberOf a) 0 (λ e. renumbered a 0 e w)
+  unfolding lowest
+  refuses a w = ne-eqb (numberOf a) 0 (λ e. renumbered a 0 (ap turnOf e) w)
 
   -- a test that tells whether P, by which a is answered
   pub tested : (n : ℕ) (t : Bool) (a : Answer) {b : Answer} {P : Type 0} → Tells t P → (P → IsFirst x bs a) → ((P → ⊥) → Ends n b) → Ends n (cond t a b)

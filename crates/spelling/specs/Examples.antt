@@ -4,7 +4,7 @@ use mathlib.Core.List.{[], _∷_}
 use lib.IntN.{pos, negℤ}
 use Rattle.record.specs.declared.Content.the-variants.{Blank, Number, Bad}
 use Rattle.record.specs.Spelling.{contentOf, negative, alone, leading, digits}
-use Rattle.record.specs.Spell.{numeral, token, spell}
+use Rattle.record.specs.Spell.{lastDigits, numeral, token, spell}
 
 -- seven spaces
 blank : contentOf (32 ∷ 32 ∷ 32 ∷ 32 ∷ 32 ∷ 32 ∷ 32 ∷ []) ≡ Blank
@@ -47,5 +47,10 @@ unfolding contentOf negative leading digits
 least = refl
 
 least-spelled : spell (negℤ (pos 999999)) ≡ 45 ∷ 57 ∷ 57 ∷ 57 ∷ 57 ∷ 57 ∷ 57 ∷ []
-unfolding spell token numeral
+unfolding spell token numeral lastDigits
 least-spelled = refl
+
+-- all digits of the largest number of 64 bits
+largest : numeral 18446744073709551615 ≡ 49 ∷ 56 ∷ 52 ∷ 52 ∷ 54 ∷ 55 ∷ 52 ∷ 52 ∷ 48 ∷ 55 ∷ 51 ∷ 55 ∷ 48 ∷ 57 ∷ 53 ∷ 53 ∷ 49 ∷ 54 ∷ 49 ∷ 53 ∷ []
+unfolding numeral lastDigits
+largest = refl

@@ -3,7 +3,7 @@
 use mathlib.Core.Path.{_≡_, refl, _∙_, sym, ap, subst}
 use mathlib.Core.Logic.{_↔_}
 use mathlib.Core.List.{List, _++_}
-use Prim.Native.Nat.{ℕ, zero, suc, _-_}
+use Prim.Native.Nat.{ℕ, zero, suc, _+_, _-_}
 use native.Mathlib.Omega.{arith}
 use lib.Dec.{leb→le, le→leb}
 use lib.IntN.{ℤ, pos, negsuc, negℤ}
@@ -14,28 +14,27 @@ use Rattle.record.specs.declared.Content.the-variants.{Blank, Number, Bad}
 use Rattle.record.specs.Spelling.{space, contentOf}
 use Rattle.record.specs.Spell.{token, spell, Spellable}
 use Rattle.record.specs.Layout.{width}
-use Rattle.spelling.specs.Reading.{token-length, token-reads, after-spaces, Spelled, Says, says}
+use Rattle.spelling.specs.Reading.{token-fits, token-reads, after-spaces, Says, says}
 
 -- each number of the range has a spelling of seven bytes
 pub spell-length : (z : ℤ) → Spellable z → length (spell z) ≡ width
 unfolding spell
 spell-length z h =
-    omega (arith, token-length z h, length-append (replicate (width - length (token z)) space) (token z), length-replicate (width - length (token z)) space)
+    omega (arith, token-fits z .0 h, length-append (replicate (width - length (token z)) space) (token z), length-replicate (width - length (token z)) space)
 
 -- a number's spelling is read as the number
-pub spell-reads : (z : ℤ) → Spellable z → contentOf (spell z) ≡ Number z
+pub spell-reads : (z : ℤ) → contentOf (spell z) ≡ Number z
 unfolding spell
-spell-reads z h = after-spaces (width - length (token z)) (token z) ∙ token-reads z h
+spell-reads z = after-spaces (width - length (token z)) (token z) ∙ token-reads z
 
 -- seven bytes that are read as a number are the spelling of that number: no number is read in part
 pub one-spelling : (bs : List ℕ) (z : ℤ) → length bs ≡ width → contentOf bs ≡ Number z → (bs ≡ spell z) × Spellable z
 unfolding spell
 one-spelling bs z l e =
-    let s : Says bs (Number z) = subst (Says bs) e (says bs) in
-    let r : Spelled bs z = s (omega arith) in
-    let k : r .spaces ≡ width - length (token z) =
-    omega (arith, ap length (r .text), length-append (replicate (r .spaces) space) (token z), length-replicate (r .spaces) space) in
-    (r .text ∙ ap (λ i. replicate i space ++ token z) k, r .fits)
+    let (k, t) = subst (Says bs) e (says bs) in
+    let n : length bs ≡ k + length (token z) = ap length t ∙ length-append (replicate k space) (token z) ∙ ap (λ i. i + length (token z)) (length-replicate k space) in
+    let q : k ≡ width - length (token z) = omega arith in
+    (t ∙ ap (λ i. replicate i space ++ token z) q, token-fits z .1 (omega arith))
 
 -- spaces are blank
 pub spaces-blank : (n : ℕ) → contentOf (replicate n space) ≡ Blank
@@ -48,9 +47,9 @@ pub blank-spaces : (bs : List ℕ) → contentOf bs ≡ Blank → bs ≡ replica
 blank-spaces bs e = subst (Says bs) e (says bs)
 
 -- two numbers have two spellings
-pub spell-apart : (y z : ℤ) → Spellable y → Spellable z → spell y ≡ spell z → y ≡ z
-spell-apart y z hy hz e =
-    let q : Number y ≡ Number z = sym (spell-reads y hy) ∙ ap contentOf e ∙ spell-reads z hz in
+pub spell-apart : (y z : ℤ) → spell y ≡ spell z → y ≡ z
+spell-apart y z e =
+    let q : Number y ≡ Number z = sym (spell-reads y) ∙ ap contentOf e ∙ spell-reads z in
     cc
 
 -- seven bytes are refused where they are neither spaces nor the spelling of a number
@@ -58,7 +57,7 @@ pub bad-neither : (bs : List ℕ) → length bs ≡ width → (contentOf bs ≡ 
 bad-neither bs l = (
   λ e. (
     λ q. let b = spaces-blank width in let o : _≡_ {A = ℕ} 0 1 = cc (ap contentOf q) in omega arith,
-    λ z h q. let b = spell-reads z h in let o : _≡_ {A = ℕ} 0 1 = cc (ap contentOf q) in omega arith,
+    λ z h q. let b = spell-reads z in let o : _≡_ {A = ℕ} 0 1 = cc (ap contentOf q) in omega arith,
   ),
   λ n. go (contentOf bs) refl (n .0) (n .1),
 )

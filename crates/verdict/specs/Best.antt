@@ -1,47 +1,55 @@
 -- Counting until over the places of a plan: the best sum that can be reached from each place, in its first and in its last round.
 use mathlib.Core.List.{List}
 use mathlib.Core.Bool.{Bool, true, false, cond}
-use Prim.Native.Nat.{ℕ, zero, suc, _+_, _-_}
+use Prim.Native.Nat.{ℕ, zero, suc, _-_}
 use lib.Dec.{eqb}
 use lib.IntN.{ℤ, pos, _+ℤ_, _*ℤ_}
 use lib.Signed.{leZ}
 use Rattle.items.specs.declared.Place.{Place}
 use Rattle.meaning.specs.Run.{stretch}
-use Rattle.meaning.specs.declared.Label.{Label}
+use Rattle.meaning.specs.Labels.{Label}
 use Rattle.verdict.specs.declared.Rounds.{Rounds}
 use Rattle.verdict.specs.declared.Rounds.the-variants as rounds
-use Rattle.verdict.specs.declared.Best.{Best}
-use Rattle.verdict.specs.declared.Best.the-variants as best
-use Rattle.verdict.specs.declared.Front.{Front}
 use Rattle.verdict.specs.Rounds.{firstOf, loopOf, isLast, roundsOf}
+
+-- the best sum that an until can reach from a moment: none, a number, or one as great as you like (the code has a number for it: crate best)
+pub data Best : Type 0 where
+  None : Best
+  Sum : ℤ → Best
+  Any : Best
+
+-- the best sums at a place: in its first round and in its last
+pub record Front : Type 0 where
+  pub first : Best
+  pub last : Best
 
 -- whether a bound is reached
 abbrev pub atLeast : ℤ → Best → Bool
-atLeast b best.None = false
-atLeast b (best.Sum v) = leZ b v
-atLeast b best.Any = true
+atLeast b None = false
+atLeast b (Sum v) = leZ b v
+atLeast b Any = true
 
 -- w more
 abbrev pub plus : ℤ → Best → Best
-plus w best.None = best.None
-plus w (best.Sum v) = best.Sum (w +ℤ v)
-plus w best.Any = best.Any
+plus w None = None
+plus w (Sum v) = Sum (w +ℤ v)
+plus w Any = Any
 
 -- the greater of two
 unfoldable pub greater : Best → Best → Best
-greater best.None v = v
-greater (best.Sum a) best.None = best.Sum a
-greater (best.Sum a) (best.Sum b) = best.Sum (cond (leZ a b) b a)
-greater (best.Sum a) best.Any = best.Any
-greater best.Any v = best.Any
+greater None v = v
+greater (Sum a) None = Sum a
+greater (Sum a) (Sum b) = Sum (cond (leZ a b) b a)
+greater (Sum a) Any = Any
+greater Any v = Any
 
 -- on from a place, where it is held
 abbrev pub onward : Label → Best → Best
-onward l v = cond (l .held) (plus (l .weight) v) best.None
+onward l v = cond (l .held) (plus (l .weight) v) None
 
 -- the best at a place, where v is the best at the next
 unfoldable pub step : Label → Best → Best
-step l v = greater (cond (l .goal) (best.Sum (pos 0)) best.None) (onward l v)
+step l v = greater (cond (l .goal) (Sum (pos 0)) None) (onward l v)
 
 -- over the n places from p on, and then v
 unfoldable pub chain : (ℕ → Label) → ℕ → ℕ → Best → Best
@@ -50,7 +58,7 @@ chain l p (suc n) v = step (l p) (chain l (suc p) n v)
 
 -- the sum of the n places from p on, where each is held
 unfoldable pub whole : (ℕ → Label) → ℕ → ℕ → Best
-whole l p zero = best.Sum (pos 0)
+whole l p zero = Sum (pos 0)
 whole l p (suc n) = onward (l p) (whole l (suc p) n)
 
 -- the positive part
@@ -59,17 +67,17 @@ positive z = cond (leZ (pos 0) z) z (pos 0)
 
 -- n rounds, and then v: a is the best within a round, s the sum of a whole round. To stop in a round, or to go through all of them
 unfoldable pub power : Best → Best → ℕ → Best → Best
-power a best.None n v = cond (eqb n 0) v a
-power a (best.Sum s) n v = cond (eqb n 0) v (greater (plus (pos (n - 1) *ℤ positive s) a) (plus (pos n *ℤ s) v))
-power a best.Any n v = cond (eqb n 0) v a
+power a None n v = cond (eqb n 0) v a
+power a (Sum s) n v = cond (eqb n 0) v (greater (plus (pos (n - 1) *ℤ positive s) a) (plus (pos n *ℤ s) v))
+power a Any n v = cond (eqb n 0) v a
 
 -- rounds without end: where there is something to stop at and a round adds something, as much as you like
 unfoldable pub limit : Best → Best → Best
-limit a best.None = a
-limit best.None (best.Sum s) = best.None
-limit (best.Sum v) (best.Sum s) = cond (leZ s (pos 0)) (best.Sum v) best.Any
-limit best.Any (best.Sum s) = best.Any
-limit a best.Any = a
+limit a None = a
+limit None (Sum s) = None
+limit (Sum v) (Sum s) = cond (leZ s (pos 0)) (Sum v) Any
+limit Any (Sum s) = Any
+limit a Any = a
 
 -- from the last place of a stretch in its first round: on into its later rounds, and then out of it, where v is the best after it
 abbrev pub onFirst : Rounds → Best → Best → Best → Best
@@ -88,7 +96,7 @@ abbrev pub frontBy : (ℕ → Label) → List Place → ℕ → Front → Front
 frontBy l ps p y =
     let q = firstOf ps p in
     let n = stretch (loopOf ps p) in
-    let a = chain l q n best.None in
+    let a = chain l q n None in
     let s = whole l q n in
     let r = roundsOf (loopOf ps p) in
     cond (isLast ps p)
@@ -97,5 +105,5 @@ frontBy l ps p y =
 
 -- place p, where d places are left from it on
 unfoldable pub front : (ℕ → Label) → List Place → ℕ → ℕ → Front
-front l ps p zero = record { first = best.None; last = best.None }
+front l ps p zero = record { first = None; last = None }
 front l ps p (suc d) = frontBy l ps p (front l ps (suc p) d)

@@ -18,12 +18,14 @@ use Rattle.items.specs.declared.Place.{Place}
 use Rattle.plan.specs.Cases.{Items, noItem}
 use Rattle.rules.specs.Rules.{markAt, Closed}
 use Rattle.integer.specs.Tests.{cond-by, tells-and, tells-not}
-use Rattle.meaning.specs.Run.{Moment, Counters, here, stretch, again, spot, guardAt}
+use Rattle.counters.specs.Sum.{Counters}
+use Rattle.meaning.specs.Run.{Moment, here, stretch, again, spot, guardAt}
 use Rattle.meaning.specs.Truth.{Says, bit}
 use Rattle.meaning.specs.Judged.{stateOf, marked, traceOf}
 use Rattle.meaning.specs.Facts.{Laid, Facts, Refers}
 use Rattle.meaning.specs.Stays.{next-by}
-use Rattle.meaning.specs.Below.{labelOf, RightBelow, SaysBelow, says-below, until-labels}
+use Rattle.meaning.specs.Labels.{labelOf}
+use Rattle.meaning.specs.Below.{RightBelow, SaysBelow, says-below, until-labels}
 use Rattle.verdict.specs.declared.Throughout.{Throughout}
 use Rattle.verdict.specs.Tells.{Tells, tells-always, tells-never, agree-tells}
 use Rattle.verdict.specs.Rounds.{firstOf, loopOf, isLast, roundsOf, In, flag}

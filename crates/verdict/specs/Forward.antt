@@ -2,11 +2,12 @@
 use mathlib.Core.Bool.{true, false, cond}
 use Prim.Native.Nat.{ℕ, zero, suc, _+_, _-_}
 use lib.IntN.{ℤ, pos, _+ℤ_, _-ℤ_, _*ℤ_}
+use Rattle.counters.specs.Sum.{Counters}
 use Rattle.items.specs.declared.LoopMark.{LoopMark}
 use Rattle.items.specs.declared.LoopMark.the-variants as mark
 use Rattle.plan.specs.Cases.{Items}
 use Rattle.rules.specs.Rules.{markAt}
-use Rattle.meaning.specs.Run.{Counters, stretch, moveOf, update}
+use Rattle.meaning.specs.Run.{stretch, moveOf, update}
 use Rattle.verdict.specs.Rounds.{firstOf, loopOf, isLast}
 
 -- what the way into place p adds to counter j

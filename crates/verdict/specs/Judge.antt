@@ -21,10 +21,12 @@ use Rattle.rules.specs.Rules.{Closed}
 use Rattle.rules.specs.Sound.{Sound, loopsFrom}
 use Rattle.rules.specs.Loops.{closed-is}
 use Rattle.integer.specs.Tests.{tells-and, tells-lt, tells-not}
-use Rattle.meaning.specs.Run.{Moment, Way, Counters, here, spot, placeAt, backOf, moveNo, moveOf, guardsOf}
-use Rattle.meaning.specs.Judged.{All, from, gather, stateOf, wayIn, wayBack, waysInto, waysOf, before, Connects, Test, testsOf, Passes, Fails, Mark, marksOf, marked, root, Right, Wrong, Finished, Judged}
+use Rattle.integer.specs.All.{All, from, gather}
+use Rattle.integer.specs.Members.{Has, all-has, has-all, has-below, gather-has, all-pairs}
+use Rattle.counters.specs.Sum.{Counters}
+use Rattle.meaning.specs.Run.{Moment, Way, here, spot, placeAt, backOf, moveNo, moveOf, guardsOf}
+use Rattle.meaning.specs.Judged.{stateOf, wayIn, wayBack, waysInto, waysOf, before, Connects, Test, testsOf, Passes, Fails, Mark, marksOf, marked, root, Right, Wrong, Finished, Judged}
 use Rattle.meaning.specs.Facts.{Facts}
-use Rattle.meaning.specs.Lists.{Has, all-has, has-all, has-below, gather-has, all-pairs}
 use Rattle.meaning.specs.Given.{facts}
 use Rattle.meaning.specs.Stays.{in-plan}
 use Rattle.meaning.specs.Below.{RightBelow}

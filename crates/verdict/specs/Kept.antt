@@ -16,10 +16,11 @@ use Rattle.items.specs.declared.Place.{Place}
 use Rattle.plan.specs.Cases.{Items}
 use Rattle.rules.specs.Rules.{markAt, Closed}
 use Rattle.integer.specs.Sums.{left-comm}
-use Rattle.meaning.specs.Run.{Moment, Way, Counters, here, stretch, again, spot, taken, moveOf, update, counters, sum, Meets, guardAt}
+use Rattle.integer.specs.Members.{Has}
+use Rattle.counters.specs.Sum.{Counters, sum}
+use Rattle.meaning.specs.Run.{Moment, Way, here, stretch, again, spot, taken, moveOf, update, counters, Meets, guardAt}
 use Rattle.meaning.specs.Judged.{waysOf, Test, Passes, Fails}
 use Rattle.meaning.specs.Facts.{Laid, Facts}
-use Rattle.meaning.specs.Lists.{Has}
 use Rattle.meaning.specs.Stays.{next-by}
 use Rattle.meaning.specs.Between.{sum-same, sum-plus}
 use Rattle.verdict.specs.declared.Throughout.the-variants.{Always}

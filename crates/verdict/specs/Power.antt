@@ -11,11 +11,10 @@ use lib.Signed.{_≤ℤ_, leZ}
 use Rattle.integer.specs.Order.{up, down, le-true}
 use Rattle.integer.specs.Sums.{le-out, le-in, eq-in, le-or, add-rel, neg-rel}
 use Rattle.integer.specs.Tests.{tells-or}
-use Rattle.meaning.specs.declared.Label.{Label}
+use Rattle.meaning.specs.Labels.{Label}
 use Rattle.meaning.specs.Between.{OneWay}
-use Rattle.verdict.specs.declared.Best.{Best}
-use Rattle.verdict.specs.declared.Best.the-variants as best
-use Rattle.verdict.specs.Best.{atLeast, plus, greater, onward, step, chain, whole, positive, power, limit}
+use Rattle.verdict.specs.Best as best
+use Rattle.verdict.specs.Best.{Best, atLeast, plus, greater, onward, step, chain, whole, positive, power, limit}
 
 -- ---- tests of integers, for `omega`
 

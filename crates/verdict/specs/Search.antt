@@ -2,8 +2,8 @@
 use mathlib.Core.Path.{_≡_, refl}
 use mathlib.Core.List.{List, [], _∷_, _++_, List·Memᴰ·head, List·Memᴰ·tail}
 use mathlib.Core.Bool.{Bool, true, false}
-use Rattle.meaning.specs.Judged.{All, none, also, First, this, later}
-use Rattle.meaning.specs.Lists.{Has}
+use Rattle.integer.specs.All.{All, none, also, First, this, later}
+use Rattle.integer.specs.Members.{Has}
 use Rattle.verdict.specs.Verdict.{Found, nowhere, at, firstNot}
 
 -- what was found is the first that is bad, and all are good where nothing was

@@ -10,6 +10,8 @@ use lib.Dec.{ltb, eqb}
 use lib.ListN.{length}
 use borrow.Author.Tests.{ltb-true, ltb-false, lt-ltb, le-ltb, eq-eqb, ne-eqb}
 use Rattle.integer.specs.Tests.{cond-by}
+use Rattle.integer.specs.All.{from}
+use Rattle.integer.specs.Members.{Has, has-below, gather-has}
 use Rattle.items.specs.declared.LoopMark.{LoopMark}
 use Rattle.items.specs.declared.LoopMark.the-variants as mark
 use Rattle.items.specs.declared.Ref.{Ref}
@@ -18,9 +20,8 @@ use Rattle.items.specs.declared.Place.{Place}
 use Rattle.plan.specs.Cases.{Items}
 use Rattle.rules.specs.Rules.{markAt, Closed}
 use Rattle.meaning.specs.Run.{Moment, Spot, Step, Way, here, stretch, again, next, spot, taken, placeAt}
-use Rattle.meaning.specs.Judged.{from, wayIn, wayBack, waysInto, waysOf}
+use Rattle.meaning.specs.Judged.{wayIn, wayBack, waysInto, waysOf}
 use Rattle.meaning.specs.Facts.{Laid, Facts}
-use Rattle.meaning.specs.Lists.{Has, has-below, gather-has}
 use Rattle.meaning.specs.Walk.{at, next-on, next-back, next-out, in-stretch, last-round}
 use Rattle.meaning.specs.Stays.{next-by}
 use Rattle.verdict.specs.declared.Rounds.{Rounds}

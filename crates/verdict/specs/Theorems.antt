@@ -1,11 +1,11 @@
 -- What is proved of the answer: start here. The computation is in Verdict.antt, what each answer says in the crate meaning. Assumes nothing.
 use mathlib.Core.Path.{_≡_}
 use mathlib.Core.Logic.{_↔_}
+use Rattle.counters.specs.Sum.{Counters}
 use Rattle.plan.specs.declared.Case.{Case}
 use Rattle.plan.specs.Cases.{itemsOf}
 use Rattle.rules.specs.Sound.{Sound}
 use Rattle.meaning.specs.declared.Judgement.{Judgement}
-use Rattle.meaning.specs.Run.{Counters}
 use Rattle.meaning.specs.Judged.{IsAccepted, Judged, numbersOf}
 use Rattle.meaning.specs.Theorems.{one-answer, zero-accepts}
 use Rattle.verdict.specs.Verdict.{verdict}

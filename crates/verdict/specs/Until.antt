@@ -19,19 +19,17 @@ use Rattle.plan.specs.Cases.{Items}
 use Rattle.rules.specs.Rules.{markAt, Closed}
 use Rattle.meaning.specs.Run.{Moment, Spot, Step, here, stretch, again, next, spot}
 use Rattle.meaning.specs.Facts.{Laid}
-use Rattle.meaning.specs.declared.Label.{Label}
+use Rattle.meaning.specs.Labels.{Label}
 use Rattle.meaning.specs.Counting.{total, Gets, splice}
 use Rattle.meaning.specs.Walk.{at, next-on, next-back, next-out}
 use Rattle.meaning.specs.Stays.{in-plan}
 use Rattle.meaning.specs.Between.{later, one-way}
 use Rattle.verdict.specs.declared.Rounds.{Rounds}
 use Rattle.verdict.specs.declared.Rounds.the-variants as rounds
-use Rattle.verdict.specs.declared.Best.{Best}
-use Rattle.verdict.specs.declared.Best.the-variants as best
+use Rattle.verdict.specs.Best as best
 use Rattle.verdict.specs.Rounds.{firstOf, isLast, roundsOf, In}
 use Rattle.verdict.specs.Forward.{repeats}
-use Rattle.verdict.specs.declared.Front.{Front}
-use Rattle.verdict.specs.Best.{atLeast, step, chain, whole, limit, onFirst, onLast, front}
+use Rattle.verdict.specs.Best.{Best, Front, atLeast, step, chain, whole, limit, onFirst, onLast, front}
 use Rattle.verdict.specs.Tells.{Tells, agree-tells}
 use Rattle.verdict.specs.Verdict.{untilThrough}
 use Rattle.verdict.specs.Steps.{in-zero, first-le, first-in, first-on, first-out, first-is, round-in, visit}

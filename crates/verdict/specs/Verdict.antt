@@ -1,11 +1,12 @@
 -- The answer of a judgement, as a computation. It costs the same for any number of rounds.
 use mathlib.Core.List.{List, [], _∷_}
 use mathlib.Core.Bool.{Bool, true, false, cond, not, _&&_}
-use Prim.Native.Nat.{ℕ, suc, _+_, _-_}
+use Prim.Native.Nat.{ℕ, suc, _-_}
 use lib.Dec.{eqb, ltb}
 use lib.IntN.{ℤ, pos, _+ℤ_}
 use lib.ListN.{length, getD}
 use Rattle.kinds.specs.declared.Kind.the-variants as kind
+use Rattle.counters.specs.Sum.{Counters, sum}
 use Rattle.items.specs.declared.Ref.{Ref}
 use Rattle.items.specs.declared.Ref.the-variants as ref
 use Rattle.items.specs.declared.Guard.{Guard}
@@ -17,18 +18,17 @@ use Rattle.rules.specs.Sound.{loopsFrom}
 use Rattle.rules.specs.Files.{size}
 use Rattle.meaning.specs.declared.Judgement.{Judgement}
 use Rattle.meaning.specs.declared.Judgement.the-variants.{Accepted, Unfinished, WrongStart, Unconnected, GuardFails, WrongMark, RootUnmarked}
-use Rattle.meaning.specs.Run.{Way, Counters, sum, guardAt, moveNo, moveOf}
+use Rattle.meaning.specs.Run.{Way, guardAt, moveNo, moveOf}
 use Rattle.meaning.specs.Truth.{bit}
 use Rattle.meaning.specs.Judged.{stateOf, waysOf, before, Test, testsOf, Mark, marksOf, marked, root}
-use Rattle.meaning.specs.Below.{labelOf}
+use Rattle.meaning.specs.Labels.{labelOf}
 use Rattle.verdict.specs.declared.Throughout.{Throughout}
 use Rattle.verdict.specs.declared.Throughout.the-variants.{Always, Never, Changes}
 use Rattle.verdict.specs.declared.Rounds.{Rounds}
 use Rattle.verdict.specs.declared.Rounds.the-variants as rounds
-use Rattle.verdict.specs.declared.Front.{Front}
 use Rattle.verdict.specs.Rounds.{firstOf, loopOf, isLast, roundsOf, roundsBy, flag, agree, through}
 use Rattle.verdict.specs.Forward.{base, drift}
-use Rattle.verdict.specs.Best.{atLeast, front}
+use Rattle.verdict.specs.Best.{Front, atLeast, front}
 
 -- ---- guards over the rounds of a place
 

@@ -14,16 +14,3 @@ pub enum Rounds {
     UpTo(u32),
     Ever,
 }
-
-// The best sum that an until can reach from a moment: none, a number, or one as great as you like. (The code has a number for it: crate best.)
-pub enum Best {
-    None,
-    Sum(i64),
-    Any,
-}
-
-// The best sums at a place: in its first round and in its last.
-pub struct Front {
-    pub first: Best,
-    pub last: Best,
-}

@@ -1,7 +1,5 @@
 -- The records of the file are taken; where one is refused the run says it all, and else the case, which is sound, is judged. Assumes nothing.
 use mathlib.Core.Path.{_≡_, _∙_, sym, ap, ap₂}
-use mathlib.Core.List.{List}
-use Prim.Native.Nat.{ℕ}
 use lib.ListN.{take}
 use Rattle.line.specs.declared.Told.{Told}
 use Rattle.line.specs.Line.{toldOf}

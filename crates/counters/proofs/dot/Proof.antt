@@ -12,11 +12,11 @@ use mir.Val.{SFits, toZ, ofZ}
 use mir.Facts.{toZ-ofZ, sfits-widen}
 use Rattle.integer.specs.Sizes.{size, times-fits, more-fits, more-read}
 use Rattle.kinds.specs.Table.{counters}
-use Rattle.meaning.specs.Run.{sum}
 use Rattle.counters.specs.Vectors.{at, sum-more}
 use Rattle.counters.specs.Bounds.{sum-within}
 use Rattle.counters.proofs.dot.Statement.{statement}
 use Rattle.counters.proofs.dot.Tie as tie
+use Rattle.counters.specs.Sum.{sum}
 
 abbrev Inv-loop : tie.InvT-loop
 Inv-loop x y total₀ j₀ total j = (j ≤ counters) × (toZ w64 total ≡ sum (take j x) (λ i. getD y i (pos 0)))

@@ -1,4 +1,4 @@
--- The loop adds what the ways and the rounds before each place add. Assumes nothing.
+-- The loop adds what the ways and the rounds before each place add to the counters at the start. Assumes nothing.
 use borrow.Author.Needs.{needs}
 use mathlib.Core.Path.{_≡_, refl, sym, _∙_, ap}
 use mathlib.Core.List.{List, []}
@@ -14,21 +14,21 @@ use Rattle.kinds.specs.declared.Kind.the-variants as kind
 use Rattle.plan.specs.Cases.{Items, itemsOf, roomOf}
 use Rattle.rules.specs.Held.{counted}
 use Rattle.meaning.specs.Run.{stretch}
-use Rattle.meaning.specs.Judged.{zeros}
+use Rattle.meaning.specs.Judged.{startOf}
 use Rattle.meaning.specs.Given.{facts}
 use Rattle.verdict.specs.Rounds.{firstOf, loopOf}
 use Rattle.verdict.specs.Forward.{ways, drift, repeats, base}
 use Rattle.forward.specs.Tables.{vecOf}
 use Rattle.forward.specs.Entries.{first-at, values-at, Has, has, values-same, sums-small, sums-are, Begun, begin, go-on, finish}
 use Rattle.forward.specs.Sums.{roundsBefore, base-is, rounds-done, rounds-kept}
-use Rattle.forward.specs.Sizes.{ways-size, times-size, rounds-before-size}
+use Rattle.forward.specs.Sizes.{start-small, ways-size, times-size, rounds-before-size}
 use Rattle.forward.specs.Stretches.{first-below, mark-is, end-is, end-in}
 use Rattle.forward.proofs.bases.Statement.{statement}
 use Rattle.forward.proofs.bases.Tie as tie
 
 abbrev Inv-loop : tie.InvT-loop
 Inv-loop c f w d n at₀ r₀ p₀ at r p =
-    (p ≤ c .count .places) × (r ≡ vecOf (λ j. roundsBefore (itemsOf c) j p)) × Begun (base (itemsOf c) zeros) at p
+    (p ≤ c .count .places) × (r ≡ vecOf (λ j. roundsBefore (itemsOf c) (startOf (itemsOf c)) j p)) × Begun (base (itemsOf c) (startOf (itemsOf c))) at p
 
 abbrev μ-loop : tie.MeasureT-loop
 μ-loop c f w d n at₀ r₀ p₀ at r p = n - p
@@ -67,7 +67,7 @@ module _ (i : tie.In-loop Inv-loop μ-loop) where
   ways-have : Has (getD (t .args .t3 .at) p (record { at = [] })) (λ j. ways x j p)
   ways-have = has _ (values-at (roomOf kind.Place) (ways x) (t .pre .2) p (record { at = [] }) below)
 
-  rounds-have : Has (l .loop .r) (λ j. roundsBefore x j p)
+  rounds-have : Has (l .loop .r) (λ j. roundsBefore x (startOf x) j p)
   rounds-have = has _ (l .loop .inv .1)
 
   drift-has : Has (getD (t .args .t4 .at) p (record { at = [] })) (λ j. drift x j q)
@@ -78,11 +78,11 @@ module _ (i : tie.In-loop Inv-loop μ-loop) where
 
 filled : (c : tie.After-more Inv-loop μ-loop) →
     let i = c .before .before .before in
-    c .more .result ≡ vecOf (λ j. base (x i) zeros j (p i))
+    c .more .result ≡ vecOf (λ j. base (x i) (startOf (x i)) j (p i))
 filled c =
     let i = c .before .before .before in
     sums-are (pos 1) refl (ways-have i) (rounds-have i) (c .more .ensures)
-    (λ j. once-more (ways (x i) j (p i)) (roundsBefore (x i) j (p i)) ∙ sym (base-is (x i) j (p i)))
+    (λ j. once-more (ways (x i) j (p i)) (roundsBefore (x i) (startOf (x i)) j (p i)) ∙ sym (base-is (x i) (startOf (x i)) j (p i)))
 
 -- the turn of the loop that n names, and where the stretch ends
 module _ (c : tie.After-stretch Inv-loop μ-loop) where
@@ -95,7 +95,7 @@ module _ (c : tie.After-stretch Inv-loop μ-loop) where
   ends : read n + c .stretch .result ≡ q n + stretch (loopOf (x n .places) (p n))
   ends = end-is (t n .pre .0) (p n) (below n) (read-is n) (c .stretch .ensures)
 
-  next : Begun (base (x n) zeros) (set (l n .loop .at) (p n) (a .more .result)) (p n + 1)
+  next : Begun (base (x n) (startOf (x n))) (set (l n .loop .at) (p n) (a .more .result)) (p n + 1)
   next = go-on (l n .loop .inv .2) (filled a) (below n)
 
 module _ (c : tie.After-repeats Inv-loop μ-loop) where
@@ -113,12 +113,12 @@ module _ (c : tie.After-repeats Inv-loop μ-loop) where
 zero-requires : tie.Need-zero-requires Inv-loop μ-loop
 zero-requires c κs = search needs
 
-zero-requires-2 : tie.Need-zero-requires-2 Inv-loop μ-loop
-zero-requires-2 c κs = search needs
+start-requires : tie.Need-start-requires Inv-loop μ-loop
+start-requires c κs = search needs
 
 loop-holds : tie.Need-loop-holds Inv-loop μ-loop
 unfolding roundsBefore
-loop-holds c = (omega arith, ap (λ (a : List ℤ). record { at = a }) (c .zero2 .ensures), begin (c .before .zero .ensures))
+loop-holds c = (omega arith, c .start .ensures, begin (c .before .zero .ensures))
 
 mul-x : tie.Need-mul-x Inv-loop μ-loop
 mul-x c = record { fits = omega (arith, below c) }
@@ -137,7 +137,7 @@ more-requires c κs =
     let i = c .before .before in
     let h = below i in
     let f = facts _ (t i .pre .0) in
-    sums-small (pos 1) refl (ways-have i) (rounds-have i) (λ j. omega (arith, ways-size f j (p i), rounds-before-size f j (p i) (omega arith)))
+    sums-small (pos 1) refl (ways-have i) (rounds-have i) (λ j. omega (arith, ways-size f j (p i), rounds-before-size f j (startOf (x i)) (start-small f j) (p i) (omega arith)))
 
 mul-at : tie.Need-mul-at Inv-loop μ-loop
 mul-at c = record { fits = omega (arith, below (c .before .before .before)) }
@@ -180,7 +180,7 @@ more-requires-2 c κs =
     let h = below i in
     let f = facts _ (t i .pre .0) in
     sums-small (pos (times c)) (times-are c) (rounds-have i) (drift-has i)
-    (λ j. omega (arith, rounds-before-size f j (p i) (omega arith), times-size f j (p i) h))
+    (λ j. omega (arith, rounds-before-size f j (startOf (x i)) (start-small f j) (p i) (omega arith), times-size f j (p i) h))
 
 loop-less : tie.Need-loop-less Inv-loop μ-loop
 loop-less c = search needs
@@ -191,7 +191,7 @@ loop-again c =
     let s = r .before .before in
     let i = n s in (
       omega arith,
-      sums-are _ (times-are r) (rounds-have i) (drift-has i) (c .more2 .ensures) (λ j. sym (rounds-done (x i) j (p i) (omega (arith, ends s)))),
+      sums-are _ (times-are r) (rounds-have i) (drift-has i) (c .more2 .ensures) (λ j. sym (rounds-done (x i) (startOf (x i)) j (p i) (omega (arith, ends s)))),
       next s,
     )
 
@@ -202,7 +202,7 @@ loop-again-2 : tie.Need-loop-again-2 Inv-loop μ-loop
 loop-again-2 c =
     let s = c .before in
     let i = n s in
-    (omega arith, l i .loop .inv .1 ∙ values-same _ _ (λ j h. sym (rounds-kept (x i) j (p i) (omega (arith, ends s)))), next s)
+    (omega arith, l i .loop .inv .1 ∙ values-same _ _ (λ j h. sym (rounds-kept (x i) (startOf (x i)) j (p i) (omega (arith, ends s)))), next s)
 
 returns : tie.Need-returns Inv-loop μ-loop
 returns c =
@@ -218,7 +218,7 @@ bases-spec =
     Inv-loop
     μ-loop
     zero-requires
-    zero-requires-2
+    start-requires
     loop-holds
     mul-x
     element-copy-out-x

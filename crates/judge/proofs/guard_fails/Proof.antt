@@ -9,7 +9,7 @@ use Rattle.kinds.specs.declared.Kind.the-variants as kind
 use Rattle.plan.specs.Cases.{itemsOf, roomOf}
 use Rattle.rules.specs.Held.{counted}
 use Rattle.meaning.specs.Run.{moveNo}
-use Rattle.meaning.specs.Judged.{zeros, testsOf}
+use Rattle.meaning.specs.Judged.{startOf, testsOf}
 use Rattle.meaning.specs.Given.{facts}
 use Rattle.verdict.specs.Rounds.{roundsBy}
 use Rattle.verdict.specs.Verdict.{firstNot, passes, numberOf}
@@ -27,7 +27,7 @@ use Rattle.judge.proofs.guard_fails.Statement.{statement}
 use Rattle.judge.proofs.guard_fails.Tie as tie
 
 abbrev Inv-loop : tie.InvT-loop
-Inv-loop c n firsts drifts bases k₀ k = firstNot (passes (itemsOf c) zeros) (testsOf (itemsOf c)) ≡ testsFrom (itemsOf c) k
+Inv-loop c n firsts drifts bases k₀ k = firstNot (passes (itemsOf c) (startOf (itemsOf c))) (testsOf (itemsOf c)) ≡ testsFrom (itemsOf c) k
 
 abbrev μ-loop : tie.MeasureT-loop
 μ-loop c n firsts drifts bases k₀ k = 4 * n - k
@@ -182,7 +182,7 @@ misses-requires c κs =
 test : (c : tie.After-misses Inv-loop μ-loop) →
     let l = c .before .before .before .before .before .before .before .before .before .before .before .before .before .before .before in
     let x = itemsOf (start l .args .t1) in
-    c .misses .result ≡ fails (passes x zeros) (isTest x) (testNo x) (4 * length (x .places)) (l .loop .k)
+    c .misses .result ≡ fails (passes x (startOf x)) (isTest x) (testNo x) (4 * length (x .places)) (l .loop .k)
 test c =
     let l = c .before .before .before .before .before .before .before .before .before .before .before .before .before .before .before in
     let y = start l in
@@ -199,7 +199,7 @@ returns c =
     let l = c .before .before .before .before .before .before .before .before .before .before .before .before .before .before .before .before in
     let x = itemsOf (start l .args .t1) in
     ap (At (record { 0 = l .loop .k / 2 / 2 })) (guard-no (c .before .before .before .before .before .before .before .before))
-    ∙ sym (ap toldTest (l .loop .inv ∙ found-here (passes x zeros) (isTest x) (testNo x) (4 * length (x .places)) (l .loop .k) (turn (c .before .before .before .before .before .before .before .before .before .before .before .before .before .before .before)) (test (c .before)) (c .if1 .taken)))
+    ∙ sym (ap toldTest (l .loop .inv ∙ found-here (passes x (startOf x)) (isTest x) (testNo x) (4 * length (x .places)) (l .loop .k) (turn (c .before .before .before .before .before .before .before .before .before .before .before .before .before .before .before)) (test (c .before)) (c .if1 .taken)))
 
 add-k : tie.Need-add-k Inv-loop μ-loop
 add-k c = omega (arith, start (c .before .before .before .before .before .before .before .before .before .before .before .before .before .before .before .before) .pre .0 .room kind.Place)
@@ -211,13 +211,13 @@ loop-again : tie.Need-loop-again Inv-loop μ-loop
 loop-again c =
     let l = c .before .before .before .before .before .before .before .before .before .before .before .before .before .before .before .before in
     let x = itemsOf (start l .args .t1) in
-    l .loop .inv ∙ found-later (passes x zeros) (isTest x) (testNo x) (4 * length (x .places)) (l .loop .k) (turn (c .before .before .before .before .before .before .before .before .before .before .before .before .before .before .before)) (test (c .before)) (c .if1 .left)
+    l .loop .inv ∙ found-later (passes x (startOf x)) (isTest x) (testNo x) (4 * length (x .places)) (l .loop .k) (turn (c .before .before .before .before .before .before .before .before .before .before .before .before .before .before .before)) (test (c .before)) (c .if1 .left)
 
 returns-2 : tie.Need-returns-2 Inv-loop μ-loop
 returns-2 c =
     let l = c .before in
     let x = itemsOf (start l .args .t1) in
-    sym (ap toldTest (l .loop .inv ∙ found-end (passes x zeros) (each (isTest x) (testNo x)) (4 * length (x .places)) (l .loop .k) (omega (arith, counted (start l .args .t1) (start l .pre .0) kind.Place))))
+    sym (ap toldTest (l .loop .inv ∙ found-end (passes x (startOf x)) (each (isTest x) (testNo x)) (4 * length (x .places)) (l .loop .k) (omega (arith, counted (start l .args .t1) (start l .pre .0) kind.Place))))
 
 pub guard-fails-spec : {M : Type 1} → statement M
 guard-fails-spec =

@@ -6,7 +6,7 @@ use borrow.Author.Tests.{not-true, not-false}
 use Rattle.kinds.specs.declared.Kind.the-variants as kind
 use Rattle.plan.specs.Cases.{Items, itemsOf}
 use Rattle.meaning.specs.declared.Judgement.the-variants.{Unfinished}
-use Rattle.meaning.specs.Judged.{zeros}
+use Rattle.meaning.specs.Judged.{startOf}
 use Rattle.verdict.specs.Verdict.{verdict}
 use Rattle.judge.specs.Stages.{
   orUnconnected,
@@ -32,7 +32,7 @@ module _ (c : tie.After-unconnected) where
   abbrev x : Items
   x = itemsOf (t .args .t1)
 
-  by-way : verdict x zeros ≡ orUnconnected (c .unconnected .result) (guardsAnswer x)
+  by-way : verdict x (startOf x) ≡ orUnconnected (c .unconnected .result) (guardsAnswer x)
   by-way =
       let d = c .before .before .before .before in
       started (t .pre) (d .before .finished .ensures) (not-false _ (d .if1 .left)) (c .before .if2 .left)
@@ -42,7 +42,7 @@ module _ (c : tie.After-guard-fails) where
   abbrev u : tie.After-unconnected
   u = c .before .before .before .before
 
-  by-guard : verdict (x u) zeros ≡ orGuardFails (c .guard-fails .result) (marksAnswer (x u))
+  by-guard : verdict (x u) (startOf (x u)) ≡ orGuardFails (c .guard-fails .result) (marksAnswer (x u))
   by-guard =
       by-way u
       ∙ ap (λ s. orUnconnected s (guardsAnswer (x u))) (c .before .before .enum-told .given .1)
@@ -52,7 +52,7 @@ module _ (c : tie.After-wrong-mark) where
   abbrev g : tie.After-guard-fails
   g = c .before .before .before
 
-  by-mark : verdict (x (u g)) zeros ≡ orWrongMark (c .wrong-mark .result) (rootAnswer (x (u g)))
+  by-mark : verdict (x (u g)) (startOf (x (u g))) ≡ orWrongMark (c .wrong-mark .result) (rootAnswer (x (u g)))
   by-mark =
       by-guard g
       ∙ ap (λ s. orGuardFails s (marksAnswer (x (u g)))) (c .before .enum-told2 .given .1)
@@ -62,7 +62,7 @@ module _ (c : tie.After-bit) where
   abbrev m : tie.After-wrong-mark
   m = c .before .before .before .before
 
-  at-root : verdict (x (u (g m))) zeros ≡ rootAnswer (x (u (g m)))
+  at-root : verdict (x (u (g m))) (startOf (x (u (g m)))) ≡ rootAnswer (x (u (g m)))
   at-root = by-mark m ∙ ap (λ s. orWrongMark s (rootAnswer (x (u (g m))))) (c .before .before .enum-told3 .given .1)
 
 -- ---- what is asked

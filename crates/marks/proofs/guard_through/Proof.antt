@@ -11,10 +11,11 @@ use mir.Val.{SFits, toZ, ofZ}
 use mir.Facts.{toZ-ofZ, sfits-widen}
 use Rattle.integer.specs.Sizes.{size, add-size}
 use Rattle.integer.specs.Tests.{cond-by}
-use Rattle.meaning.specs.Run.{sum}
 use Rattle.lines.specs.Last.{lastOf}
 use Rattle.counters.specs.Vectors.{at}
-use Rattle.marks.specs.Sums.{sum-size, throughBy}
+use Rattle.counters.specs.Sum.{sum}
+use Rattle.counters.specs.Bounds.{sum-size}
+use Rattle.marks.specs.Sums.{throughBy}
 use Rattle.marks.proofs.guard_through.Statement.{statement}
 use Rattle.marks.proofs.guard_through.Tie as tie
 

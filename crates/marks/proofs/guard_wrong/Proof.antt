@@ -10,7 +10,7 @@ use Rattle.kinds.specs.declared.Kind.the-variants as kind
 use Rattle.plan.specs.Cases.{Items, itemsOf, roomOf}
 use Rattle.rules.specs.Held.{counted}
 use Rattle.meaning.specs.Run.{guardAt}
-use Rattle.meaning.specs.Judged.{zeros}
+use Rattle.meaning.specs.Judged.{startOf}
 use Rattle.meaning.specs.Given.{facts}
 use Rattle.verdict.specs.declared.Throughout.{Throughout}
 use Rattle.verdict.specs.Verdict.{guardThrough}
@@ -24,7 +24,7 @@ use Rattle.marks.proofs.guard_wrong.Tie as tie
 
 -- what guard g is over the rounds of each place
 abbrev guardOf : Items → ℕ → ℕ → Throughout
-guardOf x g = guardThrough x zeros (guardAt (x .guards) g)
+guardOf x g = guardThrough x (startOf x) (guardAt (x .guards) g)
 
 abbrev Inv-loop : tie.InvT-loop
 Inv-loop i g c guard firsts drifts bases n p₀ p =

@@ -16,7 +16,7 @@ use Rattle.plan.specs.Cases.{itemsOf, roomOf, noItem}
 use Rattle.rules.specs.Held.{counted}
 use Rattle.meaning.specs.Truth.{bit}
 use Rattle.meaning.specs.Judged.{marked}
-use Rattle.meaning.specs.Counting.{worth, weightOf}
+use Rattle.meaning.specs.Labels.{worth, weightOf}
 use Rattle.best.specs.declared.Steps.{Steps}
 use Rattle.best.specs.Numbers.{none, choiceBy}
 use Rattle.forward.specs.Reads.{at-places}

@@ -16,11 +16,10 @@ use Rattle.items.specs.declared.LoopMark.{LoopMark}
 use Rattle.items.specs.declared.Place.{Place}
 use Rattle.plan.specs.Cases.{Items, itemsOf, roomOf, noItem}
 use Rattle.rules.specs.Held.{counted}
-use Rattle.meaning.specs.declared.Label.{Label}
+use Rattle.meaning.specs.Labels.{Label, labelOf}
 use Rattle.meaning.specs.Truth.{bit}
 use Rattle.meaning.specs.Given.{facts}
 use Rattle.meaning.specs.Judged.{marked}
-use Rattle.meaning.specs.Below.{labelOf}
 use Rattle.verdict.specs.declared.Throughout.{Throughout}
 use Rattle.verdict.specs.Rounds.{firstOf, loopOf, agree}
 use Rattle.verdict.specs.Verdict.{isAlways, isNever}

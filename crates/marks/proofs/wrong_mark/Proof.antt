@@ -13,7 +13,7 @@ use Rattle.plan.specs.declared.Case.{Case}
 use Rattle.plan.specs.Cases.{Items, itemsOf, roomOf}
 use Rattle.rules.specs.Sound.{Sound}
 use Rattle.rules.specs.Held.{counted}
-use Rattle.meaning.specs.Judged.{zeros, marksOf}
+use Rattle.meaning.specs.Judged.{startOf, marksOf}
 use Rattle.verdict.specs.Verdict.{firstNot, right, formThrough}
 use Rattle.forward.specs.declared.Tables.{Tables}
 use Rattle.forward.specs.Tables.{firstsOf}
@@ -24,7 +24,7 @@ use Rattle.marks.proofs.wrong_mark.Statement.{statement}
 use Rattle.marks.proofs.wrong_mark.Tie as tie
 
 abbrev Inv-loop : tie.InvT-loop
-Inv-loop t c firsts n places i₀ i = toldMark (firstNot (right (itemsOf c) zeros) (marksOf (itemsOf c))) ≡ rowsFrom (itemsOf c) i
+Inv-loop t c firsts n places i₀ i = toldMark (firstNot (right (itemsOf c) (startOf (itemsOf c))) (marksOf (itemsOf c))) ≡ rowsFrom (itemsOf c) i
 
 abbrev μ-loop : tie.MeasureT-loop
 μ-loop t c firsts n places i₀ i = n - i

@@ -1,0 +1,232 @@
+-- Worked examples of the meaning: document 01's other cases and its traps. A table of files, what the meaning says of each, and one statement over it; and a
+-- run, moment by moment. Assumes nothing.
+use mathlib.Core.Path.{_≡_, refl, sym, subst}
+use mathlib.Core.Logic.{⊎-elim}
+use mathlib.Core.List.{List, [], _∷_, _++_, map}
+use mathlib.Core.Bool.{Bool, true, false}
+use Prim.Native.Nat.{ℕ}
+use Prim.Native.String.{String}
+use lib.IntN.{ℤ, pos}
+use lib.ListN.{take, set}
+use Rattle.integer.specs.Lowest.{lowest}
+use Rattle.integer.specs.All.{none, All, also, from, gather}
+use Rattle.faults.specs.declared.Answer.{Answer}
+use Rattle.faults.specs.Faults.{lowestFault}
+use Rattle.faults.specs.Input.{rangeAnswer, extraAnswer, missingAnswer, formAnswer, fieldsAnswer, endedHead, headOf}
+use Rattle.plan.specs.Cases.{Items, emptyCase}
+use Rattle.plan.specs.Taking.{wayAnswer, markAnswer, placeAnswer, thereAnswer, roomAnswer, orderAnswer, takenAs, takenOf, cutFrom, cut, runFrom, runOf}
+use Rattle.plan.specs.Taking as taking
+use Rattle.record.specs.Spelling.{contentOf, negative, alone, leading, digits}
+use Rattle.record.specs.Layout.{fieldAt, recordOf}
+use Rattle.kinds.specs.Kinds.{kindOf}
+use Rattle.kinds.specs.Table.{shapeOf, ruleAt}
+use Rattle.counters.specs.Sum.{sum}
+use Rattle.items.specs.Items.{perCounter, stateOf, guardOf, moveOf, formOf, sentenceOf, markOf, placeOf}
+use Rattle.rules.specs.Sound.{loopsFrom}
+use Rattle.rules.specs.Files.{rowsOf, spelled}
+use Rattle.meaning.specs.declared.Judgement.{Judgement}
+use Rattle.meaning.specs.Run.{Spot, Way, next, spot, taken, moveAt, counters}
+use Rattle.meaning.specs.Truth.{bit}
+use Rattle.meaning.specs.Judged.{Judged, Numbers, numbersOf, startOf}
+use Rattle.meaning.specs.Files.{AllTaken}
+use Rattle.meaning.specs.Walk.{at}
+use Rattle.meaning.specs.Labels.{weightOf}
+use Rattle.verdict.specs.Rounds.{firstOf, through}
+use Rattle.verdict.specs.Forward.{ways, drift, base}
+use Rattle.verdict.specs.Best.{greater, step, chain, whole, power, limit, front}
+use Rattle.verdict.specs.Verdict.{formThrough, firstNot, verdict}
+use Rattle.casefile.specs.Answer.{answerOf}
+use Rattle.casefile.specs.Listed.{numbers}
+use Rattle.casefile.specs.Refused.{Refused, refusal, file-refused}
+use Rattle.casefile.specs.Taken.{answer-is, answers-judged}
+use Rattle.casefile.specs.Starred.{bytesOf, twelveRounds, changed}
+
+-- ---- what the meaning says of a file
+
+-- the numbers of the first refusal of the first record to which one applies, or, where all records are taken, of the answer that its case is judged
+pub data Says (bs : List ℕ) : Numbers → Type 0 where
+  refused : (k : ℕ) (a : Answer) → Refused [] (cut bs) k a → Says bs (refusal k a)
+  judged : (a : Judgement) → AllTaken (cut bs) → Judged (spelled bs) (startOf (spelled bs)) a → Says bs (numbersOf a)
+
+-- what a file is answered is what the meaning says of it
+pub says : (bs : List ℕ) → Says bs (answerOf bs)
+says bs =
+    ⊎-elim
+    (λ t. subst (Says bs) (sym (answer-is bs t)) (judged (verdict (spelled bs) (startOf (spelled bs))) t (answers-judged bs t (verdict (spelled bs) (startOf (spelled bs))) .0 (answer-is bs t))))
+    (λ (k, a, r, e). subst (Says bs) (sym e) (refused k a r))
+    (file-refused bs)
+
+-- ---- the table
+
+-- a file, and its three numbers
+abbrev pub Worked : Type 0
+Worked = List String × Numbers
+
+-- document 01's sum with 4 rounds: place 0 in the loop, place 1 outside any loop, place 2 for ever; the last sentence is the until, marked nowhere
+unfoldable pub fourRounds : List String
+fourRounds =
+    "S      1                                                 \n"
+    ∷ "S      3                                                 \n"
+    ∷ "S      0                                                 \n"
+    ∷ "T      0      0      0      0      0      0              \n"
+    ∷ "T      0      1      0      0      0      0              \n"
+    ∷ "T      1      2      0      0      0      0              \n"
+    ∷ "T      2      2      0      0      0      0              \n"
+    ∷ "F      0                                                 \n"
+    ∷ "F      1      0                                          \n"
+    ∷ "F      1      1                                          \n"
+    ∷ "F      6      0      2      5      1      1              \n"
+    ∷ "P      0             3      1      4      0              \n"
+    ∷ "P      1      1      7                                   \n"
+    ∷ "P      2      2      1      1             3              \n"
+    ∷ []
+
+-- a counter that rises by 1 in each round, and a guard that keeps it at or below 999999: 1000000 rounds, then for ever in a loop that adds nothing
+unfoldable pub rising : List String
+rising =
+    "S      0                                                 \n"
+    ∷ "G     -1      0      0      0-999999                     \n"
+    ∷ "T      0      0      1      0      0      0      0       \n"
+    ∷ "T      0      0      0      0      0      0              \n"
+    ∷ "F      0                                                 \n"
+    ∷ "P      0             1      11000000      0              \n"
+    ∷ "P      0      1      1      1             1              \n"
+    ∷ []
+
+-- a loop of 1 round with back move 1, whose guard is never met; back move 2 is from another state
+unfoldable pub looped : List String
+looped =
+    "S      0                                                 \n"
+    ∷ "S      0                                                 \n"
+    ∷ "G      0      0      0      0      1                     \n"
+    ∷ "T      0      0      0      0      0      0              \n"
+    ∷ "T      0      0      0      0      0      0      0       \n"
+    ∷ "T      1      0      0      0      0      0              \n"
+    ∷ "F      0                                                 \n"
+    ∷ "P      0             1      1      1      1              \n"
+    ∷ "P      0      0      1      1             0              \n"
+    ∷ []
+
+-- two loops, of 1 round each: a round of the first adds -2, the goal between them -5, a round of the second 3; then the goal again, and a place without it
+-- for ever. The until has bound -2: it is true at the start by the first goal where the first loop has 1 round, by the second where s rounds of the second
+-- and r of the first have 3 s at 2 r + 3 or more
+unfoldable pub both : List String
+both =
+    "S      5                                                 \n"
+    ∷ "S      6                                                 \n"
+    ∷ "S      1                                                 \n"
+    ∷ "S      2                                                 \n"
+    ∷ "S      0                                                 \n"
+    ∷ "T      0      0      0      0      0      0              \n"
+    ∷ "T      0      1      0      0      0      0              \n"
+    ∷ "T      1      2      0      0      0      0              \n"
+    ∷ "T      2      2      0      0      0      0              \n"
+    ∷ "T      2      3      0      0      0      0              \n"
+    ∷ "T      3      4      0      0      0      0              \n"
+    ∷ "T      4      4      0      0      0      0              \n"
+    ∷ "F      0                                                 \n"
+    ∷ "F      1      1                                          \n"
+    ∷ "F      1      0                                          \n"
+    ∷ "F      1      2                                          \n"
+    ∷ "F      6      0      1     -2      3      2     -5      3\n"
+    ∷ "P      0            29      1      1      0              \n"
+    ∷ "P      1      1     27                                   \n"
+    ∷ "P      2      2     21      1      1      3              \n"
+    ∷ "P      3      4     19                                   \n"
+    ∷ "P      4      5      1      1             6              \n"
+    ∷ []
+
+-- the files and their numbers
+unfoldable pub worked : List Worked
+worked =
+    -- the example of twelve rounds: with 1 round, with 1000000, with one too many, with another state at place 0
+    (changed 11 "P      0            21      2      1      1              \n", numbers 0 0 0)
+    ∷ (changed 11 "P      0            21      21000000      1              \n", numbers 0 0 0)
+    ∷ (changed 11 "P      0            21      21000001      1              \n", numbers 16 11 5)
+    ∷ (changed 11 "P      1            21      2     12      1              \n", numbers 31 0 0)
+    -- the sum with 4 rounds is below 5 everywhere, as the goal's own moment isn't counted: all marks are right, and a mark of the until isn't
+    ∷ (fourRounds, numbers 35 0 3)
+    ∷ (set fourRounds 11 "P      0            11      1      4      0              \n", numbers 34 0 3)
+    -- it is 4 in the first round
+    ∷ (set fourRounds 10 "F      6      0      2      4      1      1              \n", numbers 34 0 3)
+    -- with 5 rounds the until is true in the first and false in the last: neither mark is right
+    ∷ (set fourRounds 11 "P      0             3      1      5      0              \n", numbers 34 0 3)
+    ∷ (set fourRounds 11 "P      0            11      1      5      0              \n", numbers 34 0 3)
+    -- without terms the sum is 0: true up to the goal with bound 0, nowhere with bound 1
+    ∷ (
+      set (set (set fourRounds 10 "F      6      0      2      0                            \n")
+          11 "P      0            11      1      4      0              \n")
+          12 "P      1      1     15                                   \n",
+      numbers 0 0 0,
+    )
+    ∷ (set fourRounds 10 "F      6      0      2      1                            \n", numbers 35 0 3)
+    -- two terms on one sentence, 2 and 3, add up to 5 at the one moment before the goal, and to no more
+    ∷ (
+      set (set fourRounds 10 "F      6      0      2      5      2      1      3      1\n")
+          11 "P      0            11      1      1      0              \n",
+      numbers 0 0 0,
+    )
+    ∷ (
+      set (set fourRounds 10 "F      6      0      2      6      2      1      3      1\n")
+          11 "P      0             3      1      1      0              \n",
+      numbers 35 0 3,
+    )
+    -- the counter is at the ceiling in the last of 1000000 rounds, and passes it where the loop is endless
+    ∷ (rising, numbers 0 0 0)
+    ∷ (take 5 rising ++ ("P      0             1      1             0              \n" ∷ []), numbers 33 0 0)
+    -- the guards of a back move aren't tested with 1 round, though it must connect
+    ∷ (looped, numbers 0 0 0)
+    ∷ (set looped 7 "P      0             1      1      2      1              \n", numbers 33 0 0)
+    ∷ (set looped 7 "P      0             1      1      1      2              \n", numbers 32 0 2)
+    -- demand 3 speaks of one loop: of two at once, 1 round each and 3 rounds each are accepted, 2 rounds each are not
+    ∷ (both, numbers 0 0 0)
+    ∷ (
+      set (set both 17 "P      0            29      1      2      0              \n")
+          19 "P      2      2     21      1      2      3              \n",
+      numbers 34 0 4,
+    )
+    ∷ (
+      set (set both 17 "P      0            29      1      3      0              \n")
+          19 "P      2      2     21      1      3      3              \n",
+      numbers 0 0 0,
+    )
+    ∷ []
+
+worked-answers : map (λ (r : Worked). answerOf (bytesOf (r .0))) worked ≡ map (λ (r : Worked). r .1) worked
+unfolding worked fourRounds rising looped both changed twelveRounds bytesOf lowest contentOf negative alone leading digits fieldAt recordOf kindOf shapeOf ruleAt lowestFault rangeAnswer extraAnswer missingAnswer formAnswer fieldsAnswer endedHead headOf perCounter stateOf guardOf moveOf formOf sentenceOf markOf placeOf emptyCase wayAnswer markAnswer placeAnswer thereAnswer roomAnswer orderAnswer taking.answerOf takenAs takenOf cutFrom cut runFrom runOf loopsFrom moveAt sum bit weightOf from gather startOf firstOf through ways drift base greater step chain whole power limit front formThrough firstNot verdict answerOf
+worked-answers = refl
+
+-- the meaning says of each file what the table gives
+pub worked-said : All (λ (r : Worked). Says (bytesOf (r .0)) (r .1)) worked
+worked-said = each worked worked-answers
+  where
+    each : (rows : List Worked) → map (λ (r : Worked). answerOf (bytesOf (r .0))) rows ≡ map (λ (r : Worked). r .1) rows →
+        All (λ (r : Worked). Says (bytesOf (r .0)) (r .1)) rows
+    each [] e = none
+    each (r ∷ rows) e =
+        let h : answerOf (bytesOf (r .0)) ≡ r .1 = cc in
+        also (subst (Says (bytesOf (r .0))) h (says (bytesOf (r .0)))) (each rows cc)
+
+-- ---- the run of the example of twelve rounds
+
+-- its case
+abbrev pub twelve : Items
+twelve = spelled (bytesOf twelveRounds)
+
+-- a way into place p, or back to it
+abbrev way : ℕ → Bool → Way
+way p b = record { place = p; back = b }
+
+-- at some moments: where it is, by which way it goes on, and what counter 0 is. The counted loop's last moment is in round 11, counted from 0
+pub twelve-run : map {B = Spot × Way × ℤ} (λ m. (spot (twelve .places) m, taken (twelve .places) m, counters twelve (startOf twelve) m 0)) (0 ∷ 1 ∷ 2 ∷ 22 ∷ 23 ∷ 24 ∷ 25 ∷ 26 ∷ [])
+    ≡ (at 0 0 0, way 1 false, pos 0)
+    ∷ (at 0 1 0, way 0 true, pos 1250)
+    ∷ (at 0 0 1, way 1 false, pos 0)
+    ∷ (at 0 0 11, way 1 false, pos 0)
+    ∷ (at 0 1 11, way 2 false, pos 1250)
+    ∷ (at 2 0 0, way 3 false, pos 0)
+    ∷ (at 2 1 0, way 2 true, pos 1250)
+    ∷ (at 2 0 1, way 3 false, pos 0)
+    ∷ []
+unfolding twelveRounds bytesOf cutFrom cut rowsOf contentOf negative alone leading digits fieldAt recordOf perCounter stateOf guardOf moveOf formOf sentenceOf markOf placeOf startOf spot next counters moveAt
+twelve-run = refl
