@@ -8,6 +8,7 @@ use Rattle.plan.specs.Cases.{roomOf}
 use Rattle.meaning.specs.Labels.{Label}
 use Rattle.verdict.specs.declared.Rounds.{Rounds}
 use Rattle.verdict.specs.declared.Rounds.the-variants as rounds
+use Rattle.lines.specs.Last.{mostRounds}
 use Rattle.best.specs.declared.Round.{Round}
 
 -- the greatest size of a weight: two coefficients of at most 999
@@ -17,10 +18,6 @@ heaviest = 1998
 -- no weight is greater
 pub record Light (l : ℕ → Label) : Type 0 where
   pub each : (p : ℕ) → size (l p .weight) ≤ heaviest
-
--- the most rounds of a stretch
-abbrev pub mostRounds : ℕ
-mostRounds = 1000000
 
 -- no more rounds than a plan can have
 abbrev pub Few : Rounds → Type 0

@@ -12,9 +12,10 @@ use Rattle.integer.specs.Sizes.{size, add-size}
 use Rattle.integer.specs.Tests.{cond-by}
 use Rattle.kinds.specs.declared.Kind.the-variants as kind
 use Rattle.plan.specs.Cases.{roomOf}
+use Rattle.lines.specs.Last.{mostRounds}
 use Rattle.best.specs.declared.Round.{Round}
 use Rattle.best.specs.Numbers.{least, larger, withinBy, sumBy, roundBy}
-use Rattle.best.specs.Bounds.{heaviest, mostRounds, small, Tame, Slight}
+use Rattle.best.specs.Bounds.{heaviest, small, Tame, Slight}
 
 -- the larger of two goes no farther than both
 larger-size : (k : ℕ) (a b : ℤ) → size a ≤ k → size b ≤ k → size (larger a b) ≤ k

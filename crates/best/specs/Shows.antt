@@ -21,9 +21,10 @@ use Rattle.meaning.specs.Run.{stretch}
 use Rattle.verdict.specs.Best as best
 use Rattle.verdict.specs.Rounds.{roundsOf}
 use Rattle.verdict.specs.Best.{Best, atLeast, plus, greater, onward, step, chain, whole, positive, power, limit, onFirst, onLast}
+use Rattle.lines.specs.Last.{mostRounds}
 use Rattle.best.specs.declared.Round.{Round}
 use Rattle.best.specs.Numbers.{none, any, least, stopOf, goOf, larger, stepBy, withinBy, sumBy, roundBy, powerBy, limitBy, aroundBy}
-use Rattle.best.specs.Bounds.{heaviest, Light, mostRounds, Few, small, Tame}
+use Rattle.best.specs.Bounds.{heaviest, Light, Few, small, Tame}
 
 -- ---- how far
 

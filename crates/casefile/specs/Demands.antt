@@ -1,6 +1,16 @@
--- The three demands, each as one theorem: read this first. A file is a list of bytes. What it is answered stands in Answer.antt, the listed results in
--- Listed.antt; the rules of taking and the case that a file spells in rules/specs (Rules.antt, Files.antt); the run, truth, each answer of a judgement,
--- demand 2's words and the files that the meaning accepts in meaning/specs (Run.antt, Truth.antt, Judged.antt, Paper.antt, Files.antt). Assumes nothing.
+-- The three demands, each as one theorem: read this first. A file is a list of bytes, and `answerOf` has the three numbers that it is answered. Assumes nothing.
+--
+-- One promise ties them to the code: `casefile::answer` (casefile/src/lib.rt), which the program calls, ensures `r ≡ toldOf (answerOf bytes)` for every byte slice.
+-- Where demand 1 speaks of the case that is held, it is what `Case::take` and `Case::take_all` hand back (plan/src/lib.rt: `r ≡ takenOf ..`, `r ≡ runOf ..`).
+--
+-- To be read with this file, and only their definitions:
+-- results: Listed.antt (`Listed`), Refused.antt (`Refused`, `refusal`), faults/specs/Answers.antt;
+-- fields: record/specs/Spell.antt, spelling/specs/Spelled.antt (`ReadAs`), Whole.antt (`bytesAt`);
+-- records and cases: plan/specs/Taking.antt (`cut`), plan/specs/Cases.antt, items/specs/Items.antt, rules/specs/Files.antt;
+-- rules of taking: rules/specs/Rules.antt, kinds/specs/Table.antt;
+-- meaning: meaning/specs, Run.antt, Truth.antt, Judged.antt, Paper.antt, Files.antt, and FilesBetween.antt (`SpellsNumber`).
+--
+-- Not to be read to believe them: the computation (how `answerOf`, `takenOf`, `runOf`, `verdict` and the field's reader `contentOf` work), and every law.
 use mathlib.Core.Path.{_≡_}
 use mathlib.Core.Logic.{_↔_, _⊎_}
 use mathlib.Core.List.{List, [], _++_, map}
@@ -8,10 +18,9 @@ use mathlib.Core.Bool.{false}
 use Prim.Native.Nat.{ℕ, _+_, _*_, _≤_}
 use lib.IntN.{ℤ}
 use lib.Signed.{_≤ℤ_}
-use lib.ListN.{length, getD}
-use Rattle.record.specs.declared.Content.the-variants.{Number}
-use Rattle.record.specs.Spell.{spell}
-use Rattle.record.specs.Layout.{fields, recordLength}
+use lib.ListN.{length, getD, take}
+use Rattle.record.specs.Layout.{fields, recordLength, bytesAt}
+use Rattle.spelling.specs.Spelled.{ReadAs}
 use Rattle.kinds.specs.declared.Kind.{Kind}
 use Rattle.kinds.specs.declared.Kind.the-variants as kind
 use Rattle.kinds.specs.Kinds.{letterOf}
@@ -21,7 +30,7 @@ use Rattle.plan.specs.declared.Case.{Case}
 use Rattle.plan.specs.Cases.{emptyCase, itemsOf, listOf}
 use Rattle.plan.specs.Taking.{isTaken, takenOf, runOf, cut}
 use Rattle.rules.specs.Rules.{contentAt}
-use Rattle.rules.specs.Files.{rowsOf, spelled}
+use Rattle.rules.specs.Files.{rowsOf, spelledBy, spelled}
 use Rattle.rules.specs.Theorems.{refused}
 use Rattle.meaning.specs.declared.Judgement.{Judgement}
 use Rattle.meaning.specs.Judged.{Finished, Judged, numbersOf, startOf}
@@ -30,12 +39,11 @@ use Rattle.meaning.specs.Files.{AllTaken, FileAccepted}
 use Rattle.meaning.specs.Around.{roundsAt}
 use Rattle.meaning.specs.FilesBetween.{SpellsNumber}
 use Rattle.meaning.specs.Theorems.{file-between}
-use Rattle.verdict.specs.Verdict.{verdict}
 use Rattle.casefile.specs.Answer.{answerOf}
 use Rattle.casefile.specs.Listed.{Listed, listed}
-use Rattle.casefile.specs.Refused.{Refused, refusal, file-refused}
-use Rattle.casefile.specs.Whole.{bytesAt, whole-number}
-use Rattle.casefile.specs.Taken.{case-is, fields-are, answer-is, answers-judged, accepts-means, file-accepts}
+use Rattle.casefile.specs.Refused.{Refused, refusal, file-refused, file-ends}
+use Rattle.casefile.specs.Whole.{field-read}
+use Rattle.casefile.specs.Taken.{case-is, fields-are, judgement-is, answers-judged, accepts-means, file-accepts, file-means}
 
 -- the checker accepts a file: its result is 0
 abbrev pub Accepts : List ℕ → Type 0
@@ -52,29 +60,32 @@ checker-accepts = file-accepts
 pub record Demand1 : Type 0 where
   -- the three numbers of a file are those of a listed result; it gets no other, as `answerOf` is a function
   pub listed : (bs : List ℕ) → Listed (answerOf bs)
-  -- where not all its records are taken, they are those of the first refusal that applies to the first record to which one does
-  pub first : (bs : List ℕ) →
-      AllTaken (cut bs) ⊎ ((k : ℕ) × (a : Answer) × Refused [] (cut bs) k a × (answerOf bs ≡ refusal k a))
-  -- a field of a record that is read as a number is the spelling of that number, in all its seven bytes
-  pub whole : (b : List ℕ) → length b ≡ recordLength →
-      (f : ℕ) → f ≤ fields → (z : ℤ) → contentAt b f ≡ Number z → bytesAt b f ≡ spell z
+  -- all its records are taken, or there is a first record to which a refusal applies, with the first that does
+  pub first : (bs : List ℕ) → AllTaken (cut bs) ⊎ ((k : ℕ) × (a : Answer) × Refused [] (cut bs) k a)
+  -- where that is refusal a of record k, the numbers are those of a and k, and the case that is held is the one that the records before k spell
+  pub stopped : (bs : List ℕ) (k : ℕ) (a : Answer) → Refused [] (cut bs) k a →
+      (answerOf bs ≡ refusal k a) × (itemsOf (runOf emptyCase bs .case) ≡ spelledBy (take k (cut bs)))
+  -- a field of a record is read by all its seven bytes: blank exactly where they are spaces, a number exactly where they are its spelling, bad where they are neither
+  pub read : (b : List ℕ) → length b ≡ recordLength → (f : ℕ) → 1 ≤ f → f ≤ fields → ReadAs (bytesAt b f) (contentAt b f)
   -- and the items of the case have the fields of the records again: no number is cut where it is kept
   pub again : (bs : List ℕ) → AllTaken (cut bs) → (k : Kind) → map (rowOf k) (listOf k (spelled bs)) ≡ rowsOf k (cut bs)
   -- a refused record leaves the case as it stood, all of it
   pub refused : (c : Case) (b : List ℕ) → isTaken (takenOf c b .answer) ≡ false → takenOf c b .case ≡ c
-  -- the case is the one that the file spells; the judgement is worked out from it alone, and hands back numbers and no case
+  -- a judgement alters nothing by its type: it takes a case and hands back an answer, and no case. What is left to say: the case that is held when all
+  -- records are taken is the one that the file spells, and the numbers are those of a judgement of that case
   pub unaltered : (bs : List ℕ) → AllTaken (cut bs) →
-      (itemsOf (runOf emptyCase bs .case) ≡ spelled bs) × (answerOf bs ≡ numbersOf (verdict (spelled bs) (startOf (spelled bs))))
+      (itemsOf (runOf emptyCase bs .case) ≡ spelled bs) × ((a : Judgement) × Judged (spelled bs) (startOf (spelled bs)) a × (answerOf bs ≡ numbersOf a))
 
 pub demand-1 : Demand1
 demand-1 =
     record {
       listed = listed;
       first = file-refused;
-      whole = whole-number;
+      stopped = file-ends;
+      read = field-read;
       again = fields-are;
       refused = refused;
-      unaltered = λ bs h. (case-is bs h, answer-is bs h);
+      unaltered = λ bs h. (case-is bs h, judgement-is bs h);
     }
 
 -- ---- demand 2
@@ -86,6 +97,10 @@ pub demand-2 : (bs : List ℕ) → AllTaken (cut bs) →
     (Finished (spelled bs) → Accepts bs ↔ Means (spelled bs) (startOf (spelled bs)))
     × ((a : Judgement) → (answerOf bs ≡ numbersOf a) ↔ Judged (spelled bs) (startOf (spelled bs)) a)
 demand-2 bs h = (accepts-means bs h, answers-judged bs h)
+
+-- and so the files that the meaning accepts, of which demand 3 speaks, are those of which demand 2's words are true
+pub accepted-means : (bs : List ℕ) → FileAccepted bs ↔ (AllTaken (cut bs) × Finished (spelled bs) × Means (spelled bs) (startOf (spelled bs)))
+accepted-means = file-means
 
 -- ---- demand 3
 

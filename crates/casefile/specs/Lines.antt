@@ -14,7 +14,6 @@ use Rattle.spelling.specs.Reading.{token-reads}
 use Rattle.faults.specs.Input.{lineFeed}
 use Rattle.meaning.specs.Judged.{Numbers}
 use Rattle.meaning.specs.Given.{all-both}
-use Rattle.casefile.specs.Answer.{answerOf}
 use Rattle.line.specs.Line.{lineOf}
 
 -- ---- the digits of one number
@@ -58,7 +57,3 @@ line-tells m n e =
       second = numeral-apart (m .second) (n .second) b i;
       third = numeral-apart (m .third) (n .third) c i;
     }
-
--- two files with one line have one answer
-pub files-told : (bs cs : List ℕ) → lineOf (answerOf bs) ≡ lineOf (answerOf cs) → answerOf bs ≡ answerOf cs
-files-told bs cs = line-tells (answerOf bs) (answerOf cs)

@@ -79,10 +79,15 @@ pub data Listed : Numbers → Type 0 where
 
 -- ---- a record
 
--- a field with a fault is one of a record's, counted from 1
-in-record : (f : Fault) (s : Shape) (bs : List ℕ) (g : ℕ) → faultAt f s (recordOf bs) (g - 1) ≡ true → g ≤ fields
-in-record f s bs g e =
-    elim (decLt fields g) [ yes h ↦ absurd (true≢false (sym e ∙ past-fault f s bs (g - 1) (omega arith))) | no h ↦ omega arith ]
+-- a field with a fault is one of a record's
+in-record : (f : Fault) (s : Shape) (bs : List ℕ) (g : ℕ) → faultAt f s (recordOf bs) g ≡ true → (1 ≤ g) × (g ≤ fields)
+in-record f s bs g e = (
+  elim (decLt 0 g) [ yes h ↦ h | no h ↦ absurd (out (λ l. absurd (omega arith))) ],
+  elim (decLt fields g) [ yes h ↦ absurd (out (λ l. h)) | no h ↦ omega arith ],
+)
+  where
+    out : (0 < g → fields < g) → ⊥
+    out h = true≢false (sym e ∙ past-fault f s bs g h)
 
 -- a refusal of record n that applies is listed
 module _ (x : Items) (bs : List ℕ) (n : ℕ) (h : n ≤ room) where
@@ -92,17 +97,20 @@ module _ (x : Items) (bs : List ℕ) (n : ℕ) (h : n ≤ room) where
   refused answer.NoLineFeed w = no-line-feed h
   refused answer.NoSuchKind w = no-such-kind h
   refused (answer.Misspelled f) l =
-      misspelled h (l .counted) (in-record fault.Misspelled (shapeOf kind.State (recordOf bs)) bs f (l .holds))
+      let (a, b) = in-record fault.Misspelled (shapeOf kind.State (recordOf bs)) bs f (l .holds) in
+      misspelled h a b
   refused (answer.Misfilled f) (k, is, form, w) =
-      ⊎-elim
-      (λ l. misfilled h (l .counted) (in-record fault.Missing (shapeOf k (recordOf bs)) bs f (l .holds)))
-      (λ (full, l). misfilled h (l .counted) (in-record fault.Extra (shapeOf k (recordOf bs)) bs f (l .holds)))
-      w
-  refused (answer.OutOfRange f) (k, is, l) = out-of-range h (l .counted) (in-record fault.OutOfRange (shapeOf k (recordOf bs)) bs f (l .holds))
+      let (a, b) = ⊎-elim (λ l. in-record fault.Missing (shapeOf k (recordOf bs)) bs f (l .holds))
+      (λ (full, l). in-record fault.Extra (shapeOf k (recordOf bs)) bs f (l .holds)) w in
+      misfilled h a b
+  refused (answer.OutOfRange f) (k, is, l) =
+      let (a, b) = in-record fault.OutOfRange (shapeOf k (recordOf bs)) bs f (l .holds) in
+      out-of-range h a b
   refused answer.OutOfOrder w = out-of-order h
   refused answer.NoRoom w = no-room h
   refused (answer.NotThere f) (k, is, l) =
-      not-there h (l .counted) (in-record (fault.NotThere (countsOf x)) (shapeOf k (recordOf bs)) bs f (l .holds))
+      let (a, b) = in-record (fault.NotThere (countsOf x)) (shapeOf k (recordOf bs)) bs f (l .holds) in
+      not-there h a b
   refused (answer.Misplaced f) (is, w) = ⊎-elim (λ c. rw (c .1) (after-the-end h)) (λ m. rw (m .2) (misplaced h)) w
   refused answer.WrongWayIn w = wrong-way-in h
 

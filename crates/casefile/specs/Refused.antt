@@ -1,4 +1,5 @@
--- A file with a record to which a refusal applies is answered the first refusal of the first such record. Assumes nothing.
+-- A file with a record to which a refusal applies is answered the first refusal of the first such record, and leaves the case that the records before it
+-- spell. Assumes nothing.
 use mathlib.Core.Path.{_≡_, refl, _∙_, sym, ap, subst}
 use mathlib.Core.Logic.{_⊎_, inl, inr, ⊎-elim}
 use mathlib.Core.List.{List, [], _∷_, _++_, append-nil}
@@ -19,7 +20,8 @@ use Rattle.rules.specs.Files.{rowsOf, spelledBy}
 use Rattle.rules.specs.Sound.{Sound}
 use Rattle.rules.specs.Stages.{refuses}
 use Rattle.rules.specs.Kept.{sound-empty, sound-kept}
-use Rattle.rules.specs.Theorems.{answers}
+use Rattle.rules.specs.First.{first-one}
+use Rattle.rules.specs.Theorems.{answers, refused}
 use Rattle.meaning.specs.Judged.{Numbers}
 use Rattle.meaning.specs.Files.{AllTaken}
 use Rattle.meaning.specs.AllTaken.{spelled-more, all-taken}
@@ -58,30 +60,59 @@ module _ (ps rs : List (List ℕ)) (b : List ℕ) where
         first = subst (λ l. IsFirst (spelledBy l) b a) (sym (append-nil ps)) f;
       }
 
--- a run over records that ends with a refusal
+-- there is one such record, and one such refusal
+one-refusal : {ps rs : List (List ℕ)} {k j : ℕ} {a b : Answer} → Refused ps rs k a → Refused ps rs j b → (j ≡ k) × (b ≡ a)
+one-refusal {ps} {rs} {k} {j} {a} {b} r q =
+    let e : j ≡ k = neither-less (λ h. r .before j h b (q .first .applies)) (λ h. q .before k h a (r .first .applies)) in
+    (e, first-one (spelledBy (ps ++ take k rs)) (getD rs k []) b a (subst (λ i. IsFirst (spelledBy (ps ++ take i rs)) (getD rs i []) b) e (q .first)) (r .first))
+  where
+    neither-less : {m n : ℕ} → (m < n → ⊥) → (n < m → ⊥) → m ≡ n
+    neither-less l g = omega arith
+
+-- a run over records that ends with a refusal: what it tells, and the case that it leaves
 stops : (rs ps : List (List ℕ)) (c : Case) (m : ℕ) → Sound c → itemsOf c ≡ spelledBy ps → isTaken (runFrom c m rs .answer) ≡ false →
-    (k : ℕ) × Refused ps rs k (runFrom c m rs .answer) × (runFrom c m rs .taken ≡ m + k)
+    (k : ℕ) × Refused ps rs k (runFrom c m rs .answer) × (runFrom c m rs .taken ≡ m + k) × (itemsOf (runFrom c m rs .case) ≡ spelledBy (ps ++ take k rs))
 unfolding runFrom
 stops [] ps c m s e = λ h. absurd (true≢false h)
 stops (b ∷ rs) ps c m s e =
     let t = takenOf c b in
     let by = subst (λ x. ((isTaken (t .answer) ≡ true) × ((a : Answer) → Applies x b a → ⊥)) ⊎ IsFirst x b (t .answer)) e (answers c b s) in
-    cond-by (λ (r : Run). isTaken (r .answer) ≡ false → (k : ℕ) × Refused ps (b ∷ rs) k (r .answer) × (r .taken ≡ m + k)) (isTaken (t .answer))
-    {x = runFrom (t .case) (m + 1) rs} {y = record { case = t .case; answer = t .answer; taken = m }}
+    cond-by
+    (λ (r : Run). isTaken (r .answer) ≡ false →
+    (k : ℕ) × Refused ps (b ∷ rs) k (r .answer) × (r .taken ≡ m + k) × (itemsOf (r .case) ≡ spelledBy (ps ++ take k (b ∷ rs))))
+    (isTaken (t .answer)) {x = runFrom (t .case) (m + 1) rs} {y = record { case = t .case; answer = t .answer; taken = m }}
     (λ w h.
-    let (k, r, n) = stops rs (ps ++ (b ∷ [])) (t .case) (m + 1) (sound-kept c b s) (spelled-more c ps b s e w) h in
+    let (k, r, n, l) = stops rs (ps ++ (b ∷ [])) (t .case) (m + 1) (sound-kept c b s) (spelled-more c ps b s e w) h in
     let none = ⊎-elim (λ y. y .1) (λ f. absurd (true≢false (sym w ∙ refuses (spelledBy ps) b (t .answer) (f .applies)))) by in
-    (suc k, later ps rs b k _ none r, omega (arith, n)))
-    (λ w h. (0, now ps rs b (t .answer) (⊎-elim (λ y. absurd (true≢false (sym (y .0) ∙ w))) (λ f. f) by), omega arith))
+    (suc k, later ps rs b k _ none r, omega (arith, n), l ∙ ap spelledBy (append-snoc ps b (take k rs))))
+    (λ w h. (
+      0,
+      now ps rs b (t .answer) (⊎-elim (λ y. absurd (true≢false (sym (y .0) ∙ w))) (λ f. f) by),
+      omega arith,
+      ap itemsOf (refused c b w) ∙ e ∙ ap spelledBy (sym (append-nil ps)),
+    ))
 
--- all records of a file are taken, or it is answered the first refusal of the first that is not
-pub file-refused : (bs : List ℕ) → AllTaken (cut bs) ⊎ ((k : ℕ) × (a : Answer) × Refused [] (cut bs) k a × (answerOf bs ≡ refusal k a))
+-- the numbers of a file of which record k is refused, and the case that is held: the one that the records before it spell
+abbrev pub Ends : List ℕ → ℕ → Answer → Type 0
+Ends bs k a = (answerOf bs ≡ refusal k a) × (itemsOf (runOf emptyCase bs .case) ≡ spelledBy (take k (cut bs)))
+
+ends : (bs : List ℕ) → AllTaken (cut bs) ⊎ ((k : ℕ) × (a : Answer) × Refused [] (cut bs) k a × Ends bs k a)
 unfolding answerOf runOf emptyCase rowsOf
-file-refused bs = go (isTaken (runOf emptyCase bs .answer)) refl
+ends bs = go (isTaken (runOf emptyCase bs .answer)) refl
   where
-    go : (t : Bool) → isTaken (runOf emptyCase bs .answer) ≡ t → AllTaken (cut bs) ⊎ ((k : ℕ) × (a : Answer) × Refused [] (cut bs) k a × (answerOf bs ≡ refusal k a))
+    go : (t : Bool) → isTaken (runOf emptyCase bs .answer) ≡ t → AllTaken (cut bs) ⊎ ((k : ℕ) × (a : Answer) × Refused [] (cut bs) k a × Ends bs k a)
     go true e = inl (all-taken bs .1 e)
     go false e =
-        let (k, r, n) = stops (cut bs) [] emptyCase 0 sound-empty refl e in
+        let (k, r, n, l) = stops (cut bs) [] emptyCase 0 sound-empty refl e in
         let m : runOf emptyCase bs .taken ≡ k = omega (arith, n) in
-        inr (k, runOf emptyCase bs .answer, r, rw e (ap (λ i. refusal i (runOf emptyCase bs .answer)) m))
+        inr (k, runOf emptyCase bs .answer, r, (rw e (ap (λ i. refusal i (runOf emptyCase bs .answer)) m), l))
+
+-- all records of a file are taken, or there is a first that is refused
+pub file-refused : (bs : List ℕ) → AllTaken (cut bs) ⊎ ((k : ℕ) × (a : Answer) × Refused [] (cut bs) k a)
+file-refused bs = ⊎-elim inl (λ (k, a, r, _). inr (k, a, r)) (ends bs)
+
+-- where record k is, the file is answered its refusal, and the case is the one that the records before it spell
+pub file-ends : (bs : List ℕ) (k : ℕ) (a : Answer) → Refused [] (cut bs) k a → Ends bs k a
+file-ends bs k a r =
+    ⊎-elim (λ t. absurd (t k (r .there) a (r .first .applies)))
+    (λ (j, b, q, e). let (i, f) = one-refusal r q in subst (Ends bs k) f (subst (λ n. Ends bs n b) i e)) (ends bs)

@@ -25,7 +25,7 @@ use Rattle.meaning.specs.Theorems.{one-answer, zero-accepts, means, all-taken}
 use Rattle.verdict.specs.Verdict.{verdict}
 use Rattle.verdict.specs.Theorems.{judged}
 use Rattle.casefile.specs.Answer.{answerOf}
-use Rattle.casefile.specs.Refused.{file-refused}
+use Rattle.casefile.specs.Refused.{file-refused, file-ends}
 
 -- ---- a file whose records are all taken
 
@@ -71,14 +71,18 @@ module _ (bs : List ℕ) (h : AllTaken (cut bs)) where
   judgement = verdict x θ
 
   -- it is answered the judgement of that case
-  pub answer-is : answerOf bs ≡ numbersOf judgement
+  answer-is : answerOf bs ≡ numbersOf judgement
   unfolding answerOf
   answer-is = rw ended (ap (λ y. numbersOf (verdict y (startOf y))) case-is)
 
   judged-is : Judged x θ judgement
   judged-is = subst (λ y. Judged y (startOf y) (verdict y (startOf y))) case-is (judged (runOf emptyCase bs .case) (sound bs) _)
 
-  -- which is each answer exactly where the meaning says so
+  -- which is one of the meaning
+  pub judgement-is : (a : Judgement) × Judged x θ a × (answerOf bs ≡ numbersOf a)
+  judgement-is = (judgement, judged-is, answer-is)
+
+  -- it is each answer exactly where the meaning says so
   pub answers-judged : (a : Judgement) → (answerOf bs ≡ numbersOf a) ↔ Judged x θ a
   answers-judged a = (
     λ e. subst (Judged x θ) (sym (numbered judgement) ∙ ap judgementOf (sym answer-is ∙ e) ∙ numbered a) judged-is,
@@ -88,11 +92,14 @@ module _ (bs : List ℕ) (h : AllTaken (cut bs)) where
   taken-accepts : (answerOf bs .result ≡ 0) ↔ IsAccepted x θ
   taken-accepts = subst (λ n. (n .result ≡ 0) ↔ IsAccepted x θ) (sym answer-is) (zero-accepts x θ judgement judged-is)
 
-  -- the result is 0 exactly where demand 2 says so
+  -- the case is accepted exactly where demand 2 says so
+  taken-means : Finished x → IsAccepted x θ ↔ Means x θ
+  taken-means =
+      subst (λ y. Finished y → IsAccepted y (startOf y) ↔ Means y (startOf y)) case-is (λ o. means (runOf emptyCase bs .case) (sound bs) o _)
+
+  -- and so is the result 0
   pub accepts-means : Finished x → (answerOf bs .result ≡ 0) ↔ Means x θ
-  accepts-means f =
-      Iff·trans taken-accepts
-      (subst (λ y. Finished y → IsAccepted y (startOf y) ↔ Means y (startOf y)) case-is (λ o. means (runOf emptyCase bs .case) (sound bs) o _) f)
+  accepts-means f = Iff·trans taken-accepts (taken-means f)
 
 -- ---- any file
 
@@ -100,8 +107,16 @@ module _ (bs : List ℕ) (h : AllTaken (cut bs)) where
 pub file-accepts : (bs : List ℕ) → (answerOf bs .result ≡ 0) ↔ FileAccepted bs
 file-accepts bs = (
   λ z. ⊎-elim (λ t. record { taken = t; case = taken-accepts bs t .0 z })
-      (λ (k, a, r, e).
-      absurd (true≢false (sym (eq-eqb (numberOf a) 0 (ap (λ n. n .result) (sym e) ∙ z)) ∙ refuses _ _ a (r .first .applies))))
+      (λ (k, a, r).
+      let e = ap (λ n. n .result) (sym (file-ends bs k a r .0)) ∙ z in
+      absurd (true≢false (sym (eq-eqb (numberOf a) 0 e) ∙ refuses _ _ a (r .first .applies))))
       (file-refused bs),
   λ a. taken-accepts bs (a .taken) .1 (a .case),
+)
+
+-- and that where its records are all taken, and its case is finished and as demand 2 says
+pub file-means : (bs : List ℕ) → FileAccepted bs ↔ (AllTaken (cut bs) × Finished (spelled bs) × Means (spelled bs) (startOf (spelled bs)))
+file-means bs = (
+  λ a. let f = a .case .0 .0 .0 .0 .0 in (a .taken, f, taken-means bs (a .taken) f .0 (a .case)),
+  λ (t, f, m). record { taken = t; case = taken-means bs t f .1 m },
 )

@@ -37,8 +37,8 @@ use Rattle.verdict.specs.Best.{greater, step, chain, whole, power, limit, front
 use Rattle.verdict.specs.Verdict.{formThrough, firstNot, verdict}
 use Rattle.casefile.specs.Answer.{answerOf}
 use Rattle.casefile.specs.Listed.{numbers}
-use Rattle.casefile.specs.Refused.{Refused, refusal, file-refused}
-use Rattle.casefile.specs.Taken.{answer-is, answers-judged}
+use Rattle.casefile.specs.Refused.{Refused, refusal, file-refused, file-ends}
+use Rattle.casefile.specs.Taken.{judgement-is}
 use Rattle.casefile.specs.Starred.{bytesOf, twelveRounds, changed}
 
 -- ---- what the meaning says of a file
@@ -52,8 +52,8 @@ pub data Says (bs : List ℕ) : Numbers → Type 0 where
 pub says : (bs : List ℕ) → Says bs (answerOf bs)
 says bs =
     ⊎-elim
-    (λ t. subst (Says bs) (sym (answer-is bs t)) (judged (verdict (spelled bs) (startOf (spelled bs))) t (answers-judged bs t (verdict (spelled bs) (startOf (spelled bs))) .0 (answer-is bs t))))
-    (λ (k, a, r, e). subst (Says bs) (sym e) (refused k a r))
+    (λ t. let (a, j, e) = judgement-is bs t in subst (Says bs) (sym e) (judged a t j))
+    (λ (k, a, r). subst (Says bs) (sym (file-ends bs k a r .0)) (refused k a r))
     (file-refused bs)
 
 -- ---- the table

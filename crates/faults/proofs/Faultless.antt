@@ -1,10 +1,10 @@
 -- A record none of whose fields has a fault is taken, and refers only to what is there. Assumes nothing.
 use mathlib.Core.Path.{_≡_, refl}
 use mathlib.Core.Bool.{Bool, true, false, not, and-eq-true-iff, false≢true}
-use Prim.Native.Nat.{ℕ, _<_}
+use Prim.Native.Nat.{ℕ, _+_, _≤_, _<_}
 use native.Mathlib.Omega.{arith}
-use borrow.Author.Tests.{eqb-true, not-true, not-false}
-use Rattle.integer.specs.Lowest.{lowest-none, none-lowest}
+use borrow.Author.Tests.{ltb-true, not-true, not-false}
+use Rattle.integer.specs.Lowest.{lowest, lowest-is, lowest-none, none-lowest}
 use Rattle.record.specs.declared.Content.{Content}
 use Rattle.record.specs.declared.Content.the-variants as content
 use Rattle.record.specs.declared.Record.{Record}
@@ -25,7 +25,7 @@ use Rattle.faults.specs.declared.Answer.the-variants.{Taken}
 use Rattle.faults.specs.Faults.{misspelled, missing, extra, beyond, outside, dangling, notThere, hasFault, faultAt, lowestFault, good, right, faultless}
 use Rattle.faults.specs.Input.{wrongForm, rangeAnswer, extraAnswer, missingAnswer, formAnswer, fieldsAnswer}
 
--- whether field k is not right, counted from 0
+-- whether field k is not right, counted from 1
 abbrev pub wrongAt : Counts → Shape → Record → ℕ → Bool
 wrongAt n s r k = not (right n (ruleAt s k) (at (r .fields) k))
 
@@ -77,7 +77,7 @@ module _ (n : Counts) where
   right-clear (Optional s) content.Bad e = good-clear s content.Bad e
 
 -- a form is a number of field 1
-form-inside : (k : Kind) (n : ℕ) (x : Filled) (r : Record) → let s : Shape = record { kind = k; form = n; filled = x } in outside (ruleAt s 0) (at (r .fields) 0) ≡ false → wrongForm s r ≡ false
+form-inside : (k : Kind) (n : ℕ) (x : Filled) (r : Record) → let s : Shape = record { kind = k; form = n; filled = x } in outside (ruleAt s 1) (at (r .fields) 1) ≡ false → wrongForm s r ≡ false
 unfolding ruleAt
 form-inside State n x r e = refl
 form-inside Guard n x r e = refl
@@ -86,25 +86,28 @@ form-inside Sentence n x r e = e
 form-inside Place n x r e = refl
 
 module _ (n : Counts) (s : Shape) (r : Record) (e : faultless n s r ≡ true) where
-  clear-at : (k : ℕ) → k < fields → Clear n (ruleAt s k) (at (r .fields) k)
+  clear-at : (k : ℕ) → 0 < k → k ≤ fields → Clear n (ruleAt s k) (at (r .fields) k)
   unfolding faultless
-  clear-at k h = right-clear n (ruleAt s k) (at (r .fields) k) (not-false _ (lowest-none (wrongAt n s r) fields (eqb-true _ fields e) k h))
+  clear-at k l h =
+      let w = wrongAt n s r in
+      let m : lowest fields 1 w ≡ 1 + fields = omega (arith, lowest-is w fields 1 .within, ltb-true fields (lowest fields 1 w) e) in
+      right-clear n (ruleAt s k) (at (r .fields) k) (not-false _ (lowest-none w fields 1 m k l (omega arith)))
 
   -- no field has a fault that a field without any has not
-  lacks : (f : Fault) → ((q : Rule) (c : Content) → Clear n q c → hasFault f q c ≡ false) → lowestFault f s r ≡ fields
+  lacks : (f : Fault) → ((q : Rule) (c : Content) → Clear n q c → hasFault f q c ≡ false) → lowestFault f s r ≡ 1 + fields
   unfolding lowestFault
-  lacks f h = none-lowest (faultAt f s r) fields (λ k l. h (ruleAt s k) (at (r .fields) k) (clear-at k l))
+  lacks f h = none-lowest (faultAt f s r) fields 1 (λ k l m. h (ruleAt s k) (at (r .fields) k) (clear-at k l (omega arith)))
 
   pub faultless-taken : fieldsAnswer s r ≡ Taken
   unfolding rangeAnswer extraAnswer missingAnswer formAnswer fieldsAnswer
   faultless-taken =
       simp (
         lacks fault.Misspelled (λ q c h. h .spelled),
-        form-inside (s .kind) (s .form) (s .filled) r (clear-at 0 (omega arith) .inside),
+        form-inside (s .kind) (s .form) (s .filled) r (clear-at 1 (omega arith) (omega arith) .inside),
         lacks fault.Missing (λ q c h. h .filled),
         lacks fault.Extra (λ q c h. h .allowed),
         lacks fault.OutOfRange (λ q c h. h .inside),
       )
 
-  pub faultless-there : lowestFault (fault.NotThere n) s r ≡ fields
+  pub faultless-there : lowestFault (fault.NotThere n) s r ≡ 1 + fields
   faultless-there = lacks (fault.NotThere n) (λ q c h. h .there)

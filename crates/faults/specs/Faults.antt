@@ -1,7 +1,7 @@
 -- What can be wrong with a field, by its rule and what it says; and the lowest field with a fault.
 use mathlib.Core.Bool.{Bool, true, false, not, _&&_, _||_}
 use Prim.Native.Nat.{ℕ, _^_}
-use lib.Dec.{eqb}
+use lib.Dec.{ltb}
 use lib.IntN.{pos}
 use lib.Signed.{ltZ, leZ}
 use Rattle.integer.specs.Lowest.{lowest}
@@ -84,13 +84,13 @@ hasFault fault.Extra r c = extra r c
 hasFault fault.OutOfRange r c = outside r c
 hasFault (fault.NotThere n) r c = notThere n r c
 
--- whether field k has a fault, counted from 0
+-- whether field k has a fault, counted from 1
 abbrev pub faultAt : Fault → Shape → Record → ℕ → Bool
 faultAt f s r k = hasFault f (ruleAt s k) (at (r .fields) k)
 
--- the lowest field with a fault, counted from 0; the number of fields where there is none
+-- the lowest field with a fault, counted from 1; one past the last where there is none
 unfoldable pub lowestFault : Fault → Shape → Record → ℕ
-lowestFault f s r = lowest fields 0 (faultAt f s r)
+lowestFault f s r = lowest fields 1 (faultAt f s r)
 
 -- a number that is in the range of its sort, and refers to what is there
 abbrev pub good : Counts → Sort → Content → Bool
@@ -104,4 +104,4 @@ right n (Optional s) c = isBlank c || good n s c
 
 -- whether no field has a fault
 unfoldable pub faultless : Counts → Shape → Record → Bool
-faultless n s r = eqb (lowest fields 0 (λ (k : ℕ). not (right n (ruleAt s k) (at (r .fields) k)))) fields
+faultless n s r = ltb fields (lowest fields 1 (λ (k : ℕ). not (right n (ruleAt s k) (at (r .fields) k))))

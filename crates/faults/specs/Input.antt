@@ -1,8 +1,8 @@
 -- The results that come from the input (11 to 16), each stage named: 11 to 13 by the head of a record, 14 to 16 by its fields.
 use mathlib.Core.List.{List}
 use mathlib.Core.Bool.{Bool, false, cond}
-use Prim.Native.Nat.{ℕ, _+_, _-_}
-use lib.Dec.{eqb, ltb}
+use Prim.Native.Nat.{ℕ, _-_}
+use lib.Dec.{eqb, leb}
 use lib.ListN.{length, getD}
 use Rattle.record.specs.declared.Record.{Record}
 use Rattle.record.specs.Layout.{fields, at, recordLength}
@@ -24,9 +24,9 @@ use Rattle.faults.specs.Faults.{outside, lowestFault}
 abbrev pub lineFeed : ℕ
 lineFeed = 10
 
--- the answer where the lowest field with a fault is k, counted from 0, and the answer where there is none
+-- the answer where the lowest field with a fault is f, and the answer where there is none
 abbrev pub orElse : ℕ → (ℕ → Answer) → Answer → Answer
-orElse k refused other = cond (ltb k fields) (refused (k + 1)) other
+orElse f refused other = cond (leb f fields) (refused f) other
 
 -- a sentence whose form is filled, but is none
 abbrev pub wrongForm : Shape → Record → Bool
@@ -34,7 +34,7 @@ wrongForm s r = elim (s .kind) [
   | State ↦ false
   | Guard ↦ false
   | Move ↦ false
-  | Sentence ↦ outside (rule.Needed sort.Form) (at (r .fields) 0)
+  | Sentence ↦ outside (rule.Needed sort.Form) (at (r .fields) 1)
   | Place ↦ false
 ]
 

@@ -186,21 +186,21 @@ fn has_fault(fault: Fault, rule: Rule, content: Content) -> bool
     }
 }
 
-// The lowest field with a fault, counted from 0; the number of fields where there is none.
+// The lowest field with a fault, counted from 1; one past the last where there is none.
 pub fn lowest_fault(fault: Fault, shape: Shape, row: Record) -> usize
     ensures { λ r. ⌜ r ≡ lowestFault fault shape row ⌝ }
 {
     let fields = row.fields;
-    let mut k: usize = 0;
-    while k < Record::FIELDS {
-        let field = fields[k];
+    let mut k: usize = 1;
+    while k <= Record::FIELDS {
+        let field = fields[k - 1];
         let content = field.content;
         if has_fault(fault, kinds::rule_at(shape, k), content) {
             return k;
         }
         k = k + 1;
     }
-    Record::FIELDS
+    k
 }
 
 // A sentence whose form is filled, but is none.
@@ -225,23 +225,23 @@ pub fn fields_answer(shape: Shape, row: Record) -> Answer
     ensures { λ r. ⌜ r ≡ fieldsAnswer shape row ⌝ }
 {
     let bad = lowest_fault(Fault::Misspelled, shape, row);
-    if bad < Record::FIELDS {
-        return Answer::Misspelled((bad + 1) as u8);
+    if bad <= Record::FIELDS {
+        return Answer::Misspelled(bad as u8);
     }
     if has_wrong_form(shape, row) {
         return Answer::OutOfRange(1);
     }
     let missing = lowest_fault(Fault::Missing, shape, row);
-    if missing < Record::FIELDS {
-        return Answer::Misfilled((missing + 1) as u8);
+    if missing <= Record::FIELDS {
+        return Answer::Misfilled(missing as u8);
     }
     let extra = lowest_fault(Fault::Extra, shape, row);
-    if extra < Record::FIELDS {
-        return Answer::Misfilled((extra + 1) as u8);
+    if extra <= Record::FIELDS {
+        return Answer::Misfilled(extra as u8);
     }
     let outside = lowest_fault(Fault::OutOfRange, shape, row);
-    if outside < Record::FIELDS {
-        return Answer::OutOfRange((outside + 1) as u8);
+    if outside <= Record::FIELDS {
+        return Answer::OutOfRange(outside as u8);
     }
     Answer::Taken
 }
@@ -281,9 +281,9 @@ pub fn fits(counts: Counts, shape: Shape, row: Record) -> bool
     ensures { λ r. ⌜ r ≡ faultless counts shape row ⌝ }
 {
     let fields = row.fields;
-    let mut k: usize = 0;
-    while k < Record::FIELDS {
-        let field = fields[k];
+    let mut k: usize = 1;
+    while k <= Record::FIELDS {
+        let field = fields[k - 1];
         let content = field.content;
         if is_right(counts, kinds::rule_at(shape, k), content) {
             k = k + 1;

@@ -5,8 +5,7 @@ use mathlib.Core.List.{List, [], _∷_, _++_}
 use Prim.Native.Nat.{ℕ, zero, suc, _-_, _≤_, _<_}
 use native.Mathlib.Omega.{arith}
 use lib.IntN.{pos}
-use lib.ListN.{length, getD, replicate}
-use Rattle.integer.specs.Lists.{past-end}
+use lib.ListN.{length, getD, replicate, List·getD-eq-default}
 use Rattle.kinds.specs.declared.Kind.{Kind}
 use Rattle.kinds.specs.declared.Kind.the-variants as kind
 use Rattle.kinds.specs.Kinds.{countOf}
@@ -65,7 +64,7 @@ module _ {c : Case} (s : Sound c) where
   no-move : (r : Ref) → roomOf kind.Move ≤ slotOf r → moveAt (itemsOf c .moves) r ≡ noItem kind.Move
   unfolding moveAt
   no-move ref.None h = refl
-  no-move (ref.At t) h = sym (past-end (noItem kind.Move) (itemsOf c .moves) t (omega (arith, counted c s kind.Move, s .room kind.Move)))
+  no-move (ref.At t) h = List·getD-eq-default (itemsOf c .moves) (noItem kind.Move) {n = t} (omega (arith, counted c s kind.Move, s .room kind.Move))
 
   some-move : (r : Ref) (d : Move) → slotOf r < roomOf kind.Move → getD (c .moves) (slotOf r) d ≡ moveAt (itemsOf c .moves) r
   unfolding moveAt

@@ -56,7 +56,7 @@ integerOf Bad = pos 0
 abbrev pub shortOf : ℤ → ℤ
 shortOf z = cond (ltZ z (negsuc 32767)) (pos 0) (cond (ltZ (pos 32767) z) (pos 0) z)
 
--- a number for each counter, from field k on, counted from 0
+-- a number for each counter, from field k on
 unfoldable pub perCounter : List Field → ℕ → PerCounter
 perCounter r k = record { at = tab counters 0 (λ (j : ℕ). shortOf (integerOf (at r (k + j)))) }
 
@@ -74,33 +74,33 @@ termOf Bad s = term.None
 
 -- a state: its propositions
 unfoldable pub stateOf : List Field → State
-stateOf r = record { propositions = wordOf (at r 0) }
+stateOf r = record { propositions = wordOf (at r 1) }
 
 -- a guard: a coefficient for each counter, then the bound
 unfoldable pub guardOf : List Field → Guard
-guardOf r = record { coefficients = perCounter r 0; bound = integerOf (at r counters) }
+guardOf r = record { coefficients = perCounter r 1; bound = integerOf (at r (1 + counters)) }
 
 -- a move: from, to, an update for each counter, two guards
 unfoldable pub moveOf : List Field → Move
 moveOf r =
     record {
-      from = byteOf (at r 0);
-      to = byteOf (at r 1);
-      updates = perCounter r 2;
-      guard1 = refOf (at r (2 + counters));
-      guard2 = refOf (at r (3 + counters));
+      from = byteOf (at r 1);
+      to = byteOf (at r 2);
+      updates = perCounter r 3;
+      guard1 = refOf (at r (3 + counters));
+      guard2 = refOf (at r (4 + counters));
     }
 
 -- the sentences of the forms 0 to 6
 abbrev pub formsOf : List Field → List Form
 formsOf r =
     form.True
-    ∷ form.Proposition (byteOf (at r 1))
-    ∷ form.Guard (byteOf (at r 1))
-    ∷ form.And (byteOf (at r 1)) (byteOf (at r 2))
-    ∷ form.Not (byteOf (at r 1))
-    ∷ form.Next (byteOf (at r 1))
-    ∷ form.Until (byteOf (at r 1)) (byteOf (at r 2)) (integerOf (at r 3)) (termOf (at r 4) (at r 5)) (termOf (at r 6) (at r 7))
+    ∷ form.Proposition (byteOf (at r 2))
+    ∷ form.Guard (byteOf (at r 2))
+    ∷ form.And (byteOf (at r 2)) (byteOf (at r 3))
+    ∷ form.Not (byteOf (at r 2))
+    ∷ form.Next (byteOf (at r 2))
+    ∷ form.Until (byteOf (at r 2)) (byteOf (at r 3)) (integerOf (at r 4)) (termOf (at r 5) (at r 6)) (termOf (at r 7) (at r 8))
     ∷ []
 
 -- the sentence of form f
@@ -109,7 +109,7 @@ formOf f r = getD (formsOf r) f form.True
 
 -- a sentence: its form, and what the form asks for
 unfoldable pub sentenceOf : List Field → Sentence
-sentenceOf r = record { form = formOf (natural (at r 0)) r }
+sentenceOf r = record { form = formOf (natural (at r 1)) r }
 
 -- a loop mark, of its length, its rounds and its back move: none, counted where rounds are given, or endless
 unfoldable pub markOf : Content → Content → Content → LoopMark
@@ -122,7 +122,7 @@ markOf Bad n b = mark.None
 -- a place: its state, the move into it, its marks, its loop mark
 unfoldable pub placeOf : List Field → Place
 placeOf r =
-    record { state = byteOf (at r 0); way = refOf (at r 1); marks = natural (at r 2); mark = markOf (at r 3) (at r 4) (at r 5) }
+    record { state = byteOf (at r 1); way = refOf (at r 2); marks = natural (at r 3); mark = markOf (at r 4) (at r 5) (at r 6) }
 
 -- the item that a record of this kind becomes
 abbrev pub itemOf : (k : Kind) → List Field → Item k

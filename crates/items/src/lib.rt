@@ -109,16 +109,16 @@ fn short_of(content: Content) -> i16
     x as i16
 }
 
-// A number for each counter, from field `from` on, counted from 0.
+// A number for each counter, from field `from` on.
 fn per_counter(row: Record, from: usize) -> PerCounter
-    requires { ⌜ from + counters ≤ fields ⌝ }
+    requires { ⌜ (0 < from) × (from + counters ≤ fields + 1) ⌝ }
     ensures { λ r. ⌜ r ≡ perCounter (row .fields) from ⌝ }
 {
     let fields = row.fields;
     let mut each = [0i16; PerCounter::COUNT];
     let mut j: usize = 0;
     while j < PerCounter::COUNT {
-        let field = fields[from + j];
+        let field = fields[from + j - 1];
         let content = field.content;
         each[j] = short_of(content);
         j = j + 1;
@@ -151,13 +151,13 @@ fn term_of(coefficient: Content, sentence: Content) -> Term
     }
 }
 
-// What field k says, counted from 0.
+// What field k says, counted from 1.
 pub fn content_at(row: Record, k: usize) -> Content
-    requires { ⌜ k < fields ⌝ }
+    requires { ⌜ (0 < k) × (k ≤ fields) ⌝ }
     ensures { λ r. ⌜ r ≡ at (row .fields) k ⌝ }
 {
     let fields = row.fields;
-    let field = fields[k];
+    let field = fields[k - 1];
     field.content
 }
 
@@ -166,7 +166,7 @@ pub fn state_of(row: Record) -> State
     ensures { λ r. ⌜ r ≡ stateOf (row .fields) ⌝ }
 {
     State {
-        propositions: (kinds::natural_of(content_at(row, 0)) % 65536) as u16,
+        propositions: (kinds::natural_of(content_at(row, 1)) % 65536) as u16,
     }
 }
 
@@ -174,10 +174,10 @@ pub fn state_of(row: Record) -> State
 pub fn guard_of(row: Record) -> Guard
     ensures { λ r. ⌜ r ≡ guardOf (row .fields) ⌝ }
 {
-    let coefficients = per_counter(row, 0);
+    let coefficients = per_counter(row, 1);
     Guard {
         coefficients: coefficients,
-        bound: integer_of(content_at(row, PerCounter::COUNT)),
+        bound: integer_of(content_at(row, 1 + PerCounter::COUNT)),
     }
 }
 
@@ -185,12 +185,12 @@ pub fn guard_of(row: Record) -> Guard
 pub fn move_of(row: Record) -> Move
     ensures { λ r. ⌜ r ≡ moveOf (row .fields) ⌝ }
 {
-    let updates = per_counter(row, 2);
-    let guard1 = ref_of(content_at(row, 2 + PerCounter::COUNT));
-    let guard2 = ref_of(content_at(row, 3 + PerCounter::COUNT));
+    let updates = per_counter(row, 3);
+    let guard1 = ref_of(content_at(row, 3 + PerCounter::COUNT));
+    let guard2 = ref_of(content_at(row, 4 + PerCounter::COUNT));
     Move {
-        from: byte_of(content_at(row, 0)),
-        to: byte_of(content_at(row, 1)),
+        from: byte_of(content_at(row, 1)),
+        to: byte_of(content_at(row, 2)),
         updates: updates,
         guard1: guard1,
         guard2: guard2,
@@ -201,12 +201,12 @@ pub fn move_of(row: Record) -> Move
 fn until_of(row: Record) -> Form
     ensures { λ r. ⌜ r ≡ formOf 6 (row .fields) ⌝ }
 {
-    let term1 = term_of(content_at(row, 4), content_at(row, 5));
-    let term2 = term_of(content_at(row, 6), content_at(row, 7));
+    let term1 = term_of(content_at(row, 5), content_at(row, 6));
+    let term2 = term_of(content_at(row, 7), content_at(row, 8));
     Form::Until {
-        held: byte_of(content_at(row, 1)),
-        goal: byte_of(content_at(row, 2)),
-        bound: integer_of(content_at(row, 3)),
+        held: byte_of(content_at(row, 2)),
+        goal: byte_of(content_at(row, 3)),
+        bound: integer_of(content_at(row, 4)),
         term1: term1,
         term2: term2,
     }
@@ -216,11 +216,11 @@ fn until_of(row: Record) -> Form
 fn form_of(form: u32, row: Record) -> Form
     ensures { λ r. ⌜ r ≡ formOf form (row .fields) ⌝ }
 {
-    let operand = byte_of(content_at(row, 1));
+    let operand = byte_of(content_at(row, 2));
     match form {
         1 => Form::Proposition(operand),
         2 => Form::Guard(operand),
-        3 => Form::And(operand, byte_of(content_at(row, 2))),
+        3 => Form::And(operand, byte_of(content_at(row, 3))),
         4 => Form::Not(operand),
         5 => Form::Next(operand),
         6 => until_of(row),
@@ -232,7 +232,7 @@ fn form_of(form: u32, row: Record) -> Form
 pub fn sentence_of(row: Record) -> Sentence
     ensures { λ r. ⌜ r ≡ sentenceOf (row .fields) ⌝ }
 {
-    let form = form_of(kinds::natural_of(content_at(row, 0)), row);
+    let form = form_of(kinds::natural_of(content_at(row, 1)), row);
     Sentence { form: form }
 }
 
@@ -262,12 +262,12 @@ fn mark_of(length: Content, rounds: Content, back: Content) -> LoopMark
 pub fn place_of(row: Record) -> Place
     ensures { λ r. ⌜ r ≡ placeOf (row .fields) ⌝ }
 {
-    let way = ref_of(content_at(row, 1));
-    let mark = mark_of(content_at(row, 3), content_at(row, 4), content_at(row, 5));
+    let way = ref_of(content_at(row, 2));
+    let mark = mark_of(content_at(row, 4), content_at(row, 5), content_at(row, 6));
     Place {
-        state: byte_of(content_at(row, 0)),
+        state: byte_of(content_at(row, 1)),
         way: way,
-        marks: kinds::natural_of(content_at(row, 2)),
+        marks: kinds::natural_of(content_at(row, 3)),
         mark: mark,
     }
 }

@@ -8,7 +8,7 @@ use borrow.Author.Tests.{eq-eqb, ne-eqb}
 use lib.Dec.{eqb}
 use Rattle.integer.specs.All.{from, gather}
 use Rattle.verdict.specs.Verdict.{nowhere, at, firstNot}
-use Rattle.marks.specs.Found.{found, found-turn}
+use Rattle.guards.specs.Found.{found, found-turn}
 
 -- ---- one element or none
 

@@ -21,8 +21,8 @@ use Rattle.meaning.specs.Truth.{bit}
 use Rattle.meaning.specs.Judged.{startOf, stateOf, waysOf, Test, testsOf, Mark, marksOf, marked, root}
 use Rattle.verdict.specs.Verdict.{Found, nowhere, at, firstNot, connects, passes, right, finished, answerBy, verdict}
 use Rattle.forward.specs.Reads.{at-places}
-use Rattle.marks.specs.declared.Search.{Search}
-use Rattle.marks.specs.declared.Search.the-variants.{Nowhere, At}
+use Rattle.guards.specs.declared.Search.{Search}
+use Rattle.guards.specs.declared.Search.the-variants.{Nowhere, At}
 use Rattle.marks.specs.Wrong.{toldMark}
 use Rattle.judge.specs.Told.{toldWay, toldTest}
 

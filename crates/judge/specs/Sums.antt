@@ -8,19 +8,17 @@ use Rattle.kinds.specs.declared.Kind.the-variants as kind
 use Rattle.items.specs.declared.Guard.{Guard}
 use Rattle.plan.specs.Cases.{Items, roomOf}
 use Rattle.rules.specs.Rules.{markAt}
-use Rattle.meaning.specs.Run.{Way, guardAt}
+use Rattle.meaning.specs.Run.{Way}
 use Rattle.meaning.specs.Judged.{startOf, Test}
 use Rattle.meaning.specs.Facts.{Facts}
 use Rattle.verdict.specs.declared.Rounds.{Rounds}
 use Rattle.verdict.specs.declared.Rounds.the-variants as rounds
 use Rattle.verdict.specs.Rounds.{firstOf, roundsOf, later, roundsBy}
 use Rattle.verdict.specs.Verdict.{isAlways, passes}
-use Rattle.lines.specs.Last.{lastOf}
+use Rattle.lines.specs.Last.{lastOf, mostRounds}
 use Rattle.counters.specs.declared.Counters.{Counters}
-use Rattle.best.specs.Bounds.{mostRounds}
-use Rattle.forward.specs.Tables.{vecOf}
 use Rattle.forward.specs.Sizes.{start-small}
-use Rattle.marks.specs.Sums.{mark-few, first, round, SumsFit, throughBy, sums-fit, sums-are}
+use Rattle.guards.specs.Sums.{SumsFit, throughBy, mark-few, Known, sums-fit, sums-are}
 
 -- ---- the rounds of a way
 
@@ -44,15 +42,10 @@ module _ {x : Items} (f : Facts x) (t : Test) where
       (λ e. omega (arith, later-last (roundsOf (markAt ps p)), mark-few f p))
       (λ e. cond-by (λ r. lastOf r ≤ mostRounds) (eqb (firstOf ps p) p) (λ z. omega arith) (λ z. mark-few f (firstOf ps p)))
 
-  -- its guard
-  abbrev k : Guard
-  k = guardAt (x .guards) (t .guard)
-
   -- what the code reads
-  module _ {g : Guard} {u v : Counters} {r : Rounds}
-      (a : g ≡ k) (b : u ≡ vecOf (first x p (startOf x))) (d : v ≡ vecOf (round x p)) (e : r ≡ roundsBy (x .places) w) where
-    pub test-fits : p < roomOf kind.Place → SumsFit g u v r
-    test-fits h = rw (a, b, d, e) (sums-fit f (startOf x) (t .guard) p (start-small f) (roundsBy (x .places) w) rounds-few h)
+  module _ {k : Guard} {u v : Counters} {r : Rounds} (y : Known x (startOf x) (t .guard) p k u v) (e : r ≡ roundsBy (x .places) w) where
+    pub test-fits : p < roomOf kind.Place → SumsFit k u v r
+    test-fits h = rw e (sums-fit f y (start-small f) (roundsBy (x .places) w) rounds-few h)
 
-    pub test-is : isAlways (throughBy g u v (w .back) r) ≡ passes x (startOf x) t
-    test-is = rw (a, b, d, e) (ap isAlways (sums-are f (startOf x) (t .guard) p (w .back) (roundsBy (x .places) w)))
+    pub test-is : isAlways (throughBy k u v (w .back) r) ≡ passes x (startOf x) t
+    test-is = rw e (ap isAlways (sums-are f y (w .back) (roundsBy (x .places) w)))

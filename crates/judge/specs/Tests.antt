@@ -28,7 +28,7 @@ use Rattle.forward.specs.declared.Firsts.{Firsts}
 use Rattle.forward.specs.Tables.{firstsOf}
 use Rattle.forward.specs.Reads.{at-places, at-moves, at-guards}
 use Rattle.marks.specs.Known.{first-is, rounds-are}
-use Rattle.marks.specs.Found.{found, found-start}
+use Rattle.guards.specs.Found.{found, found-start}
 use Rattle.judge.specs.Told.{isNamed, given}
 use Rattle.judge.specs.Laws.{listed, each, gather-two, gather-gather}
 use Rattle.judge.specs.Ways.{wayNo, isWay, ways-listed, move-held, move-below}

@@ -6,8 +6,8 @@ use Rattle.plan.specs.Cases.{Items}
 use Rattle.meaning.specs.Run.{Way, moveNo}
 use Rattle.meaning.specs.Judged.{Test}
 use Rattle.verdict.specs.Verdict.{Found, nowhere, at, numberOf}
-use Rattle.marks.specs.declared.Search.{Search}
-use Rattle.marks.specs.declared.Search.the-variants.{Nowhere, At}
+use Rattle.guards.specs.declared.Search.{Search}
+use Rattle.guards.specs.declared.Search.the-variants.{Nowhere, At}
 
 -- a way, with its move
 abbrev pub toldWay : Items → Found Way → Search

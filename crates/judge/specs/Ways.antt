@@ -25,7 +25,7 @@ use Rattle.meaning.specs.Facts.{Facts}
 use Rattle.meaning.specs.Given.{facts}
 use Rattle.verdict.specs.Verdict.{Found, firstNot, connects, numberOf}
 use Rattle.forward.specs.Reads.{at-places, at-moves}
-use Rattle.marks.specs.Found.{found, found-start}
+use Rattle.guards.specs.Found.{found, found-start}
 use Rattle.judge.specs.Told.{isNamed}
 use Rattle.judge.specs.Laws.{listed, each, fails, gather-two}
 

@@ -13,19 +13,19 @@ ghost use Rattle.verdict.specs.declared.Rounds.the-variants as rounds;
 ghost use Rattle.verdict.specs.Rounds.{roundsOf, later};
 ghost use Rattle.verdict.specs.Verdict.{firstNot, connects, passes, isAlways, numberOf, verdict};
 ghost use Rattle.forward.specs.Tables.{tablesOf};
-ghost use Rattle.marks.specs.Sums.{SumsFit, throughBy};
+ghost use Rattle.guards.specs.Sums.{SumsFit, throughBy};
 ghost use Rattle.judge.specs.Told.{toldWay, toldTest, isNamed, given};
 ghost use Rattle.judge.specs.Tests.{guardBy};
 ghost use Rattle.judge.specs.Stages.{held};
 use counters::Counters;
 use forward::Tables;
+use guards::Search;
 use items::Guard;
 use items::LoopMark;
 use items::Move;
 use items::Place;
 use items::Ref;
 use kinds::Counts;
-use marks::Search;
 use meaning::Judgement;
 use plan::Case;
 use plan::Loops;
@@ -170,7 +170,7 @@ fn misses(q: Ref, g: Guard, base: Counters, drift: Counters, back: bool, rounds:
 {
     match q {
         Ref::None => false,
-        Ref::At(_) => !lines::is_always(marks::guard_through(g, base, drift, back, rounds)),
+        Ref::At(_) => !lines::is_always(guards::guard_through(g, base, drift, back, rounds)),
     }
 }
 
@@ -264,7 +264,7 @@ pub fn judge(c: Case) -> Judgement
         return Judgement::WrongMark(p, i);
     }
     let root = one_less(count.sentences) as u8;
-    if !marks::bit(first.marks, root) {
+    if !guards::bit(first.marks, root) {
         return Judgement::RootUnmarked(root);
     }
     Judgement::Accepted

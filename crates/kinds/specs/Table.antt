@@ -2,10 +2,11 @@
 -- Fields past the end of a row are blank.
 use mathlib.Core.List.{List, [], _∷_, _++_}
 use mathlib.Core.Bool.{Bool, true, false, _||_}
-use Prim.Native.Nat.{ℕ, _+_, _-_}
+use Prim.Native.Nat.{ℕ, _+_}
 use lib.Dec.{eqb}
 use lib.IntN.{ℤ, pos, negsuc, negℤ}
 use lib.ListN.{replicate, getD}
+use Rattle.integer.specs.Lists.{nth}
 use Rattle.integer.specs.Tab.{tab}
 use Rattle.record.specs.declared.Content.{Content}
 use Rattle.record.specs.declared.Content.the-variants.{Blank, Number, Bad}
@@ -141,14 +142,14 @@ unfoldable pub shapeOf : Kind → Record → Shape
 shapeOf k r =
     record {
       kind = k;
-      form = natural (at (r .fields) 0);
-      filled = record { at = tab fields 0 (λ (i : ℕ). flagOf (at (r .fields) i)) };
+      form = natural (at (r .fields) 1);
+      filled = record { at = tab fields 1 (λ (i : ℕ). flagOf (at (r .fields) i)) };
     }
 
 -- field n is filled, counted from 1
 abbrev pub inFilled : Filled → ℕ → Bool
-inFilled x n = eqb (getD (x .at) (n - 1) 0) 1
+inFilled x n = eqb (nth (x .at) n 0) 1
 
--- the rule of field k, counted from 0
+-- the rule of field f, counted from 1
 unfoldable pub ruleAt : Shape → ℕ → Rule
-ruleAt s k = getD (rowOf counters (s .kind) (s .form) (inFilled (s .filled))) k rule.Blank
+ruleAt s f = nth (rowOf counters (s .kind) (s .form) (inFilled (s .filled))) f rule.Blank

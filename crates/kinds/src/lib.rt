@@ -2,7 +2,10 @@
 ghost use mathlib.Core.Path.{_≡_};
 ghost use mathlib.Core.Bool.{_||_};
 ghost use mathlib.Core.List.{_∷_};
-ghost use lib.ListN.{getD, replicate};
+ghost use Prim.Native.Nat.{_≤_, _<_};
+ghost use lib.ListN.{replicate};
+ghost use Rattle.integer.specs.Lists.{nth};
+ghost use Rattle.record.specs.Layout.{fields};
 ghost use Rattle.kinds.specs.declared.Rule.the-variants as rule;
 ghost use Rattle.kinds.specs.declared.Sort.the-variants.{Form};
 ghost use Rattle.kinds.specs.Kinds.{kindOf, countOf};
@@ -192,6 +195,16 @@ pub fn shape_of(kind: Kind, row: Record) -> Shape
     }
 }
 
+impl Filled {
+    // Whether field k is filled, counted from 1.
+    fn has(self, k: usize) -> bool
+        requires { ⌜ (0 < k) × (k ≤ fields) ⌝ }
+        ensures { λ r. ⌜ r ≡ inFilled self k ⌝ }
+    {
+        self.at[k - 1] == 1
+    }
+}
+
 // A field that may be blank, but is needed where the test holds.
 fn needed_if(needed: bool, sort: Sort) -> Rule
     ensures { λ r. ⌜ r ≡ neededIf needed sort ⌝ }
@@ -210,11 +223,12 @@ fn any(a: bool, b: bool) -> bool
     if a { true } else { b }
 }
 
-// The rules of each kind, for field k, counted from 0. A state: its propositions.
+// The rules of each kind, for field k, counted from 1. A state: its propositions.
 fn state_rule(k: usize) -> Rule
-    ensures { λ r. ⌜ r ≡ getD stateRow k rule.Blank ⌝ }
+    requires { ⌜ 0 < k ⌝ }
+    ensures { λ r. ⌜ r ≡ nth stateRow k rule.Blank ⌝ }
 {
-    if k == 0 {
+    if k == 1 {
         Rule::Needed(Sort::Propositions)
     } else {
         Rule::Blank
@@ -223,12 +237,13 @@ fn state_rule(k: usize) -> Rule
 
 // A guard: a coefficient for each counter, then the bound.
 fn guard_rule(k: usize) -> Rule
-    ensures { λ r. ⌜ r ≡ getD (guardRow counters) k rule.Blank ⌝ }
+    requires { ⌜ 0 < k ⌝ }
+    ensures { λ r. ⌜ r ≡ nth (guardRow counters) k rule.Blank ⌝ }
 {
-    if k < PerCounter::COUNT {
+    if k <= PerCounter::COUNT {
         return Rule::Needed(Sort::Coefficient);
     }
-    if k == PerCounter::COUNT {
+    if k == 1 + PerCounter::COUNT {
         return Rule::Needed(Sort::Bound);
     }
     Rule::Blank
@@ -236,19 +251,22 @@ fn guard_rule(k: usize) -> Rule
 
 // A move: from, to, an update for each counter, two guards, the second only with the first.
 fn move_rule(filled: Filled, k: usize) -> Rule
-    ensures { λ r. ⌜ r ≡ getD (moveRow counters (inFilled filled)) k rule.Blank ⌝ }
+    requires { ⌜ 0 < k ⌝ }
+    ensures { λ r. ⌜ r ≡ nth (moveRow counters (inFilled filled)) k rule.Blank ⌝ }
 {
-    let x = filled.at;
-    if k < 2 {
+    if k <= 2 {
         return Rule::Needed(Sort::Reference(Kind::State));
     }
-    if k < 2 + PerCounter::COUNT {
+    if k <= 2 + PerCounter::COUNT {
         return Rule::Needed(Sort::Update);
     }
-    if k == 2 + PerCounter::COUNT {
-        return needed_if(x[3 + PerCounter::COUNT] == 1, Sort::Reference(Kind::Guard));
-    }
     if k == 3 + PerCounter::COUNT {
+        return needed_if(
+            filled.has(4 + PerCounter::COUNT),
+            Sort::Reference(Kind::Guard),
+        );
+    }
+    if k == 4 + PerCounter::COUNT {
         return Rule::Optional(Sort::Reference(Kind::Guard));
     }
     Rule::Blank
@@ -256,12 +274,13 @@ fn move_rule(filled: Filled, k: usize) -> Rule
 
 // The rule of field k of a sentence that has n fields of one sort after its form.
 fn parts_rule(n: usize, sort: Sort, k: usize) -> Rule
-    ensures { λ r. ⌜ r ≡ getD (rule.Needed Form ∷ replicate n (rule.Needed sort)) k rule.Blank ⌝ }
+    requires { ⌜ 0 < k ⌝ }
+    ensures { λ r. ⌜ r ≡ nth (rule.Needed Form ∷ replicate n (rule.Needed sort)) k rule.Blank ⌝ }
 {
-    if k == 0 {
+    if k == 1 {
         return Rule::Needed(Sort::Form);
     }
-    if k <= n {
+    if k - 1 <= n {
         return Rule::Needed(sort);
     }
     Rule::Blank
@@ -269,25 +288,29 @@ fn parts_rule(n: usize, sort: Sort, k: usize) -> Rule
 
 // An until: held sentence, goal, bound, up to two terms, each filled or blank as a pair.
 fn until_rule(filled: Filled, k: usize) -> Rule
-    ensures { λ r. ⌜ r ≡ getD (sentenceRow 6 (inFilled filled)) k rule.Blank ⌝ }
+    requires { ⌜ 0 < k ⌝ }
+    ensures { λ r. ⌜ r ≡ nth (sentenceRow 6 (inFilled filled)) k rule.Blank ⌝ }
 {
-    let x = filled.at;
     match k {
-        3 => Rule::Needed(Sort::Bound),
-        4 => needed_if(any(x[5] == 1, any(x[6] == 1, x[7] == 1)), Sort::Coefficient),
+        4 => Rule::Needed(Sort::Bound),
         5 => needed_if(
-            any(x[4] == 1, any(x[6] == 1, x[7] == 1)),
+            any(filled.has(6), any(filled.has(7), filled.has(8))),
+            Sort::Coefficient,
+        ),
+        6 => needed_if(
+            any(filled.has(5), any(filled.has(7), filled.has(8))),
             Sort::Reference(Kind::Sentence),
         ),
-        6 => needed_if(x[7] == 1, Sort::Coefficient),
-        7 => needed_if(x[6] == 1, Sort::Reference(Kind::Sentence)),
+        7 => needed_if(filled.has(8), Sort::Coefficient),
+        8 => needed_if(filled.has(7), Sort::Reference(Kind::Sentence)),
         _ => parts_rule(2, Sort::Reference(Kind::Sentence), k),
     }
 }
 
 // A sentence: its form, then what the form asks for.
 fn sentence_rule(form: u32, filled: Filled, k: usize) -> Rule
-    ensures { λ r. ⌜ r ≡ getD (sentenceRow form (inFilled filled)) k rule.Blank ⌝ }
+    requires { ⌜ 0 < k ⌝ }
+    ensures { λ r. ⌜ r ≡ nth (sentenceRow form (inFilled filled)) k rule.Blank ⌝ }
 {
     match form {
         1 => parts_rule(1, Sort::Proposition, k),
@@ -302,22 +325,23 @@ fn sentence_rule(form: u32, filled: Filled, k: usize) -> Rule
 
 // A place: its state, the move into it, its marks, and a loop mark of length, rounds and back move.
 fn place_rule(filled: Filled, k: usize) -> Rule
-    ensures { λ r. ⌜ r ≡ getD (placeRow (inFilled filled)) k rule.Blank ⌝ }
+    requires { ⌜ 0 < k ⌝ }
+    ensures { λ r. ⌜ r ≡ nth (placeRow (inFilled filled)) k rule.Blank ⌝ }
 {
-    let x = filled.at;
     match k {
-        0 => Rule::Needed(Sort::Reference(Kind::State)),
-        1 => Rule::Optional(Sort::Reference(Kind::Move)),
-        2 => Rule::Needed(Sort::Marks),
-        3 => needed_if(any(x[4] == 1, x[5] == 1), Sort::LoopLength),
-        4 => Rule::Optional(Sort::Rounds),
-        5 => needed_if(x[3] == 1, Sort::Reference(Kind::Move)),
+        1 => Rule::Needed(Sort::Reference(Kind::State)),
+        2 => Rule::Optional(Sort::Reference(Kind::Move)),
+        3 => Rule::Needed(Sort::Marks),
+        4 => needed_if(any(filled.has(5), filled.has(6)), Sort::LoopLength),
+        5 => Rule::Optional(Sort::Rounds),
+        6 => needed_if(filled.has(4), Sort::Reference(Kind::Move)),
         _ => Rule::Blank,
     }
 }
 
-// The rule of field k, counted from 0.
+// The rule of field k, counted from 1.
 pub fn rule_at(shape: Shape, k: usize) -> Rule
+    requires { ⌜ 0 < k ⌝ }
     ensures { λ r. ⌜ r ≡ ruleAt shape k ⌝ }
 {
     let kind = shape.kind;

@@ -1,8 +1,7 @@
--- Bits past the length of a number, the size of a number that fits a width, and marks past the places. Assumes nothing.
+-- The size of a number that fits a width, and marks past the places. Assumes nothing.
 use mathlib.Core.Path.{_≡_, _∙_, ap}
 use mathlib.Core.Bool.{false}
-use Prim.Native.Nat.{ℕ, _<_, _≤_, _^_, _/_}
-use native.Mathlib.Nat.{div-eq-of-lt}
+use Prim.Native.Nat.{ℕ, _≤_, _^_}
 use native.Mathlib.Omega.{arith}
 use lib.IntN.{ℤ, pos, negsuc}
 use lib.ListN.{length, List·getD-eq-default}
@@ -15,12 +14,7 @@ use Rattle.items.specs.declared.Place.{Place}
 use Rattle.plan.specs.Cases.{Items, noItem}
 use Rattle.meaning.specs.Truth.{bit}
 use Rattle.meaning.specs.Judged.{marked}
-
-pub bit-past : (n i : ℕ) → n < 2 ^ i → bit n i ≡ false
-unfolding bit
-bit-past n i h =
-    let e : n / 2 ^ i ≡ 0 = div-eq-of-lt h in
-    rw e
+use Rattle.guards.specs.Bits.{bit-past}
 
 pub fits-size : (w : Width) (z : ℤ) → SFits w z → size z ≤ 2 ^ hbits w
 fits-size w (pos n) f = omega (arith, f .sfits)

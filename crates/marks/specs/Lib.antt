@@ -6,5 +6,4 @@ pub mod Known
 pub mod Sums
 pub mod Steps
 pub mod Untils
-pub mod Found
 pub mod Marks

@@ -11,10 +11,10 @@ use Rattle.integer.specs.All.{from}
 use Rattle.plan.specs.Cases.{Items}
 use Rattle.meaning.specs.Judged.{startOf, Mark, marksOf}
 use Rattle.verdict.specs.Verdict.{Found, nowhere, at, firstNot, right}
-use Rattle.marks.specs.declared.Search.{Search}
-use Rattle.marks.specs.declared.Search.the-variants.{Nowhere, At}
+use Rattle.guards.specs.declared.Search.{Search}
+use Rattle.guards.specs.declared.Search.the-variants.{Nowhere, At}
 use Rattle.marks.specs.Wrong.{firstOff, wrongOf, toldMark}
-use Rattle.marks.specs.Found.{orElse, found, found-start, found-turn, found-end}
+use Rattle.guards.specs.Found.{orElse, found, found-start, found-turn, found-end}
 
 -- ---- a row, which has a k for each number k
 

@@ -4,7 +4,6 @@ use mathlib.Core.Bool.{Bool, false}
 use Prim.Native.Nat.{ℕ, _≤_}
 use native.Mathlib.Decide.{decLt}
 use native.Mathlib.Omega.{arith}
-use lib.Dec.{lit<}
 use lib.IntN.{ℤ, pos, negℤ}
 use lib.Signed.{ltZ}
 use lib.ListN.{getD, List·getD-eq-default}
@@ -59,9 +58,9 @@ within z e =
 terms-ranged : (a b : ℕ) (z : ℤ) (t u : Term) → Fit kind.Sentence (rowOf kind.Sentence (record { form = form.Until a b z t u })) → Mild t × Mild u
 unfolding rowOf ruleAt shapeOf
 terms-ranged a b z term.None term.None f = (tt, tt)
-terms-ranged a b z term.None (term.Some d r) f = (tt, within d (f .ranged 6 (lit< tt)))
-terms-ranged a b z (term.Some c s) term.None f = (within c (f .ranged 4 (lit< tt)), tt)
-terms-ranged a b z (term.Some c s) (term.Some d r) f = (within c (f .ranged 4 (lit< tt)), within d (f .ranged 6 (lit< tt)))
+terms-ranged a b z term.None (term.Some d r) f = (tt, within d (f .ranged 7))
+terms-ranged a b z (term.Some c s) term.None f = (within c (f .ranged 5), tt)
+terms-ranged a b z (term.Some c s) (term.Some d r) f = (within c (f .ranged 5), within d (f .ranged 7))
 
 form-ranged : (φ : Form) → Fit kind.Sentence (rowOf kind.Sentence (record { form = φ })) → Ranged φ
 form-ranged form.True f = tt

@@ -18,8 +18,8 @@ use Rattle.verdict.specs.Best.{front}
 use Rattle.verdict.specs.Verdict.{Found, nowhere, at, untilThrough, formThrough, isAlways, isNever}
 use Rattle.best.specs.declared.Steps.{Steps}
 use Rattle.best.specs.Numbers.{stopOf, goOf}
-use Rattle.marks.specs.declared.Search.{Search}
-use Rattle.marks.specs.declared.Search.the-variants.{Nowhere, At}
+use Rattle.guards.specs.declared.Search.{Search}
+use Rattle.guards.specs.declared.Search.the-variants.{Nowhere, At}
 
 -- the first of d numbers from p on that fails a test, and the number after them where none does
 unfoldable pub firstOff : (ℕ → Bool) → ℕ → ℕ → ℕ

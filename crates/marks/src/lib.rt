@@ -1,10 +1,8 @@
 // The marks of a sentence against what it is over the rounds of each place: the first place at which it is marked wrongly.
 ghost use mathlib.Core.Path.{_≡_};
 ghost use mathlib.Core.Bool.{cond};
-ghost use Prim.Native.Nat.{suc, _+_, _≤_, _<_, _^_};
+ghost use Prim.Native.Nat.{suc, _+_, _≤_, _<_};
 ghost use lib.Dec.{leb};
-ghost use lib.IntN.{pos, _+ℤ_};
-ghost use Rattle.integer.specs.Sizes.{size};
 ghost use Rattle.kinds.specs.declared.Kind.the-variants as kind;
 ghost use Rattle.plan.specs.Cases.{itemsOf, roomOf};
 ghost use Rattle.rules.specs.Sound.{Sound};
@@ -17,11 +15,10 @@ ghost use Rattle.verdict.specs.Verdict.{firstNot, guardThrough, nextBy, nextThr
 ghost use Rattle.forward.specs.Tables.{firstsOf, tablesOf};
 ghost use Rattle.marks.specs.Wrong.{wrongIn, sameAlways, simpleThrough, untilsOf, stepsOf, toldMark};
 ghost use Rattle.marks.specs.Ranged.{Mild};
-ghost use Rattle.marks.specs.Sums.{SumsFit, throughBy};
 use best::Steps;
-use counters::Counters;
 use forward::Firsts;
 use forward::Tables;
+use guards::Search;
 use items::Form;
 use items::Guard;
 use items::LoopMark;
@@ -31,22 +28,6 @@ use plan::Case;
 use plan::PlaceNo;
 use verdict::Rounds;
 use verdict::Throughout;
-
-// What a search found: the place, and the number of the move, the guard or the sentence.
-pub enum Search {
-    Nowhere,
-    At(PlaceNo, u8),
-}
-
-// Bit i of a set.
-pub fn bit(n: u32, i: u8) -> bool
-    ensures { λ r. ⌜ r ≡ bit n i ⌝ }
-{
-    if i < 32 {
-        return (n >> (i as u32)) % 2 == 1;
-    }
-    false
-}
 
 // Whether a mark is right, of a sentence that is so throughout the place.
 fn is_right(t: Throughout, marked: bool) -> bool
@@ -75,35 +56,6 @@ fn guard_at(c: Case, g: u8) -> Guard
     }
 }
 
-// The sum of a guard in the first of the rounds: a at first, and one round later d more.
-fn first_sum(a: i64, d: i64, later: bool) -> i64
-    requires { ⌜ size a + size d < 2 ^ 63 ⌝ }
-    ensures { λ r. ⌜ r ≡ a +ℤ cond later d (pos 0) ⌝ }
-{
-    if later {
-        return a + d;
-    }
-    a
-}
-
-// A guard over rounds, where its counters are those of the base in the first round of the place, and each round adds the drift. The rounds are all of the
-// place, or those from the second on.
-pub fn guard_through(
-    g: Guard,
-    base: Counters,
-    drift: Counters,
-    later: bool,
-    rounds: Rounds,
-) -> Throughout
-    requires { ⌜ SumsFit g base drift rounds ⌝ }
-    ensures { λ r. ⌜ r ≡ throughBy g base drift later rounds ⌝ }
-{
-    let a = counters::dot(g.coefficients, base);
-    let d = counters::dot(g.coefficients, drift);
-    let first = first_sum(a, d, later);
-    lines::through(first, d, g.bound as i64, rounds)
-}
-
 // The first place at which sentence i, guard g, is marked wrongly.
 fn guard_wrong(c: Case, t: Tables, i: u8, g: u8) -> usize
     requires { ⌜ (Sound c) × (t ≡ tablesOf (itemsOf c)) ⌝ }
@@ -122,8 +74,8 @@ fn guard_wrong(c: Case, t: Tables, i: u8, g: u8) -> usize
         let base = bases.at[p];
         let drift = drifts.at[p];
         let place = c.places[p];
-        let t = guard_through(guard, base, drift, false, lines::rounds_of(mark));
-        if is_right(t, bit(place.marks, i)) {
+        let t = guards::guard_through(guard, base, drift, false, lines::rounds_of(mark));
+        if is_right(t, guards::bit(place.marks, i)) {
             p = p + 1;
         } else {
             return p;
@@ -142,7 +94,7 @@ fn worth(marks: u32, t: Term) -> i16
             coefficient,
             sentence,
         } => {
-            if bit(marks, sentence) {
+            if guards::bit(marks, sentence) {
                 return coefficient;
             }
             0
@@ -163,8 +115,8 @@ fn steps_of(c: Case, a: u8, b: u8, t: Term, u: Term) -> Steps
         let place = c.places[p];
         let marks = place.marks;
         let weight = (worth(marks, t) as i64) + (worth(marks, u) as i64);
-        stops[p] = best::choice(bit(marks, b), 0);
-        goes[p] = best::choice(bit(marks, a), weight);
+        stops[p] = best::choice(guards::bit(marks, b), 0);
+        goes[p] = best::choice(guards::bit(marks, a), weight);
         p = p + 1;
     }
     Steps {
@@ -200,7 +152,10 @@ fn until_wrong(c: Case, firsts: Firsts, i: u8, a: u8, b: u8, bound: i32, t: Term
         first = best::step(stop, go, first);
         last = best::step(stop, go, last);
         let here = c.places[p];
-        if !is_right(lines::agree(z <= first, z <= last), bit(here.marks, i)) {
+        if !is_right(
+            lines::agree(z <= first, z <= last),
+            guards::bit(here.marks, i),
+        ) {
             wrong = p;
         }
     }
@@ -249,11 +204,11 @@ fn next_wrong(c: Case, firsts: Firsts, i: u8, a: u8) -> usize
         let first = c.places[q];
         let mark = first.mark;
         let here = c.places[p];
-        let t = next_through(p, q, mark, bit(first.marks, a), out);
-        if !is_right(t, bit(here.marks, i)) {
+        let t = next_through(p, q, mark, guards::bit(first.marks, a), out);
+        if !is_right(t, guards::bit(here.marks, i)) {
             wrong = p;
         }
-        out = bit(here.marks, a);
+        out = guards::bit(here.marks, a);
     }
     wrong
 }
@@ -264,15 +219,15 @@ fn same_always(form: Form, propositions: u16, marks: u32) -> bool
 {
     match form {
         Form::True => true,
-        Form::Proposition(v) => bit(propositions as u32, v),
+        Form::Proposition(v) => guards::bit(propositions as u32, v),
         Form::Guard(_) => false,
         Form::And(a, b) => {
-            if bit(marks, a) {
-                return bit(marks, b);
+            if guards::bit(marks, a) {
+                return guards::bit(marks, b);
             }
             false
         }
-        Form::Not(a) => !bit(marks, a),
+        Form::Not(a) => !guards::bit(marks, a),
         Form::Next(_) => false,
         Form::Until {
             held: _,
@@ -296,7 +251,7 @@ fn simple_wrong(c: Case, i: u8, form: Form) -> usize
         let s = place.state as usize;
         let state = c.states[s];
         let t = lines::flag(same_always(form, state.propositions, place.marks));
-        if is_right(t, bit(place.marks, i)) {
+        if is_right(t, guards::bit(place.marks, i)) {
             p = p + 1;
         } else {
             return p;

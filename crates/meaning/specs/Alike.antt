@@ -107,16 +107,17 @@ module _ (g : ℕ → Field) where
     same-fault f (suc zero) = refl
     same-fault f (suc (suc zero)) = refl
     same-fault f (suc (suc (suc zero))) = refl
-    same-fault Misspelled (suc (suc (suc (suc zero)))) = refl
-    same-fault Missing (suc (suc (suc (suc zero)))) = refl
-    same-fault Extra (suc (suc (suc (suc zero)))) = refl
-    same-fault OutOfRange (suc (suc (suc (suc zero)))) = p ∙ sym q
-    same-fault (NotThere n) (suc (suc (suc (suc zero)))) = refl
-    same-fault f (suc (suc (suc (suc (suc k))))) = refl
+    same-fault f (suc (suc (suc (suc zero)))) = refl
+    same-fault Misspelled (suc (suc (suc (suc (suc zero))))) = refl
+    same-fault Missing (suc (suc (suc (suc (suc zero))))) = refl
+    same-fault Extra (suc (suc (suc (suc (suc zero))))) = refl
+    same-fault OutOfRange (suc (suc (suc (suc (suc zero))))) = p ∙ sym q
+    same-fault (NotThere n) (suc (suc (suc (suc (suc zero))))) = refl
+    same-fault f (suc (suc (suc (suc (suc (suc k)))))) = refl
 
     same-lowest : (f : Fault) → lowestFault f (shapeOf Place (rounds y)) (rounds y) ≡ lowestFault f (shapeOf Place (rounds z)) (rounds z)
     unfolding lowestFault
-    same-lowest f = ap (lowest fields 0) (fun-ext (same-fault f))
+    same-lowest f = ap (lowest fields 1) (fun-ext (same-fault f))
 
     same-answer : (n : Counts) (l : Loops) → answerOf n l Place (rounds y) ≡ answerOf n l Place (rounds z)
     unfolding answerOf fieldsAnswer formAnswer missingAnswer extraAnswer rangeAnswer orderAnswer roomAnswer thereAnswer placeAnswer markAnswer wayAnswer shapeOf
@@ -133,7 +134,7 @@ module _ (g : ℕ → Field) where
     alike-rounds =
         record {
           answer = same-answer;
-          item = λ c. (refl, same-loops (c .loops) (c .count .places) (g 3 .content) (g 5 .content));
+          item = λ c. (refl, same-loops (c .loops) (c .count .places) (g 4 .content) (g 6 .content));
         }
 
 -- two records of places that differ in their rounds alone are taken alike

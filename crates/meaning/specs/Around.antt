@@ -68,35 +68,35 @@ tab-same (suc n) i g h e = λ t. e i (omega arith) t ∷ tab-same n (i + 1) g h 
 
 -- a row of fields, by what its rounds field says
 abbrev pub rowWith : (ℕ → Field) → Content → List Field
-rowWith g c = g 0 ∷ g 1 ∷ g 2 ∷ g 3 ∷ record { content = c } ∷ tab (fields - 5) 5 g
+rowWith g c = g 1 ∷ g 2 ∷ g 3 ∷ g 4 ∷ record { content = c } ∷ tab (fields - 5) 6 g
 
 module _ (head tail : List ℕ) where
   -- field k, where it is not the rounds field
   abbrev other : ℕ → Field
-  other k = cond (ltb k 4) (fieldAt head k) (record { content = contentOf (take width (drop ((k - 5) * width) tail)) })
+  other k = cond (ltb k 5) (fieldAt head k) (record { content = contentOf (take width (drop ((k - 6) * width) tail)) })
 
   module _ (f : List ℕ) (lh : length head ≡ roundsAt) (lf : length f ≡ width) where
-    early : (k : ℕ) → k < 4 → fieldAt (head ++ (f ++ tail)) k ≡ fieldAt head k
+    early : (k : ℕ) → k < 4 → fieldAt (head ++ (f ++ tail)) (suc k) ≡ fieldAt head (suc k)
     unfolding fieldAt
     early k h =
         let n : ℕ = 1 + k * width in
         ap (λ q. record { content = contentOf (take width q) }) (drop-append-le n head (f ++ tail) (omega arith))
         ∙ ap (λ q. record { content = contentOf q }) (take-append-le width (drop n head) (f ++ tail) (omega (arith, length-drop n head)))
 
-    late : (k : ℕ) → fieldAt (head ++ (f ++ tail)) (5 + k) ≡ record { content = contentOf (take width (drop (k * width) tail)) }
+    late : (k : ℕ) → fieldAt (head ++ (f ++ tail)) (suc (5 + k)) ≡ record { content = contentOf (take width (drop (k * width) tail)) }
     unfolding fieldAt
     late k =
         ap (λ q. record { content = contentOf (take width q) })
         (drop-past head (f ++ tail) (1 + (5 + k) * width) (width + k * width) (omega arith)
         ∙ drop-past f tail (width + k * width) (k * width) (omega arith))
 
-    after : (k : ℕ) → 5 ≤ k → fieldAt (head ++ (f ++ tail)) k ≡ other k
+    after : (k : ℕ) → 6 ≤ k → fieldAt (head ++ (f ++ tail)) k ≡ other k
     after k h =
-        let e : k ≡ 5 + (k - 5) = omega arith in
-        let t : ltb k 4 ≡ false = le-ltb k 4 (omega arith) in
-        ap (fieldAt (head ++ (f ++ tail))) e ∙ late (k - 5) ∙ rw t refl
+        let e : k ≡ suc (5 + (k - 6)) = omega arith in
+        let t : ltb k 5 ≡ false = le-ltb k 5 (omega arith) in
+        ap (fieldAt (head ++ (f ++ tail))) e ∙ late (k - 6) ∙ rw t refl
 
-    own : fieldAt (head ++ (f ++ tail)) 4 ≡ record { content = contentOf f }
+    own : fieldAt (head ++ (f ++ tail)) 5 ≡ record { content = contentOf f }
     unfolding fieldAt
     own =
         ap (λ q. record { content = contentOf (take width q) }) (drop-at head (f ++ tail) roundsAt lh)
@@ -105,7 +105,7 @@ module _ (head tail : List ℕ) where
     row-is : recordOf (head ++ (f ++ tail)) ≡ record { fields = rowWith other (contentOf f) }
     unfolding recordOf
     row-is =
-        let past = tab-same (fields - 5) 5 (fieldAt (head ++ (f ++ tail))) other after in
+        let past = tab-same (fields - 5) 6 (fieldAt (head ++ (f ++ tail))) other after in
         λ i. record { fields = early 0 (lit< tt) i ∷ early 1 (lit< tt) i ∷ early 2 (lit< tt) i ∷ early 3 (lit< tt) i ∷ own i ∷ past i }
 
     -- its length, its last byte and its letter are the same for all

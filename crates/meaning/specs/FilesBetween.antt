@@ -4,7 +4,7 @@ use mathlib.Core.List.{List, [], _∷_, _++_, map}
 use mathlib.Core.Bool.{true, false, _||_, true≢false}
 use Prim.Native.Nat.{ℕ, _+_, _*_, _≤_}
 use native.Mathlib.Omega.{arith}
-use lib.Dec.{eqb, lit<}
+use lib.Dec.{eqb}
 use lib.IntN.{ℤ, pos, negsuc}
 use lib.Signed.{_≤ℤ_, ltZ}
 use lib.ListN.{length, getD, length-append}
@@ -91,16 +91,16 @@ module _ (g : ℕ → Field) where
   unfolding placeOf
   place-with y n =
       let p : Place = placeOf (rowWith g (Number y)) in
-      ap (λ m. record { state = p .state; way = p .way; marks = p .marks; mark = m }) (mark-with (g 3 .content) (g 5 .content) y n)
+      ap (λ m. record { state = p .state; way = p .way; marks = p .marks; mark = m }) (mark-with (g 4 .content) (g 6 .content) y n)
 
   module _ (z : ℤ) (f : Fit kind.Place (rowWith g (Number z))) where
     fit-range : InRange z
     unfolding ruleAt shapeOf
-    fit-range = f .ranged 4 (lit< tt)
+    fit-range = f .ranged 5
 
     fit-counted : (l : ℕ) × (k : ℕ) × (placeOf (rowWith g (Number z)) .mark ≡ mark.Counted l (natural (Number z)) k)
     unfolding ruleAt shapeOf placeOf
-    fit-counted = counted (g 3 .content) (g 5 .content) z (f .full 3 (lit< tt)) (f .spelled 3 (lit< tt))
+    fit-counted = counted (g 4 .content) (g 6 .content) z (f .full 4) (f .spelled 4)
 
 -- ---- the files, by what is in the rounds field
 

@@ -6,7 +6,7 @@ use Prim.Native.Nat.{ℕ, zero, suc, _+_, _≤_, _<_}
 use native.Mathlib.Omega.{arith}
 use native.Mathlib.Decide.{decLt}
 use borrow.Author.Tests.{ltb-false, leb-false}
-use lib.Dec.{ltb, lit<}
+use lib.Dec.{ltb}
 use lib.IntN.{ℤ, pos, negℤ}
 use lib.Signed.{ltZ}
 use lib.ListN.{length, getD, replicate, drop, List·getD-eq-default}
@@ -78,11 +78,11 @@ within n z e =
 
 -- numbers in a row whose rules are one sort's, from -n to n
 each-within : (n : ℕ) (s : Sort) → rangeOf s ≡ between (negℤ (pos n)) (pos n) → (zs : List ℤ) (us : List Rule) (xs : List Field)
-    → ((j : ℕ) → j < length zs → outside (getD (replicate (length zs) (rule.Needed s) ++ us) j rule.Blank) (at (map integer zs ++ xs) j) ≡ false)
+    → ((j : ℕ) → outside (getD (replicate (length zs) (rule.Needed s) ++ us) j rule.Blank) (at (map integer zs ++ xs) (suc j)) ≡ false)
     → All (Within n) zs
 each-within n s e [] us xs h = none
 each-within n s e (z ∷ zs) us xs h =
-    also (within n z (subst (λ r. beyond r (Number z) ≡ false) e (h 0 (omega arith)))) (each-within n s e zs us xs (λ j l. h (suc j) (omega arith)))
+    also (within n z (subst (λ r. beyond r (Number z) ≡ false) e (h 0))) (each-within n s e zs us xs (λ j. h (suc j)))
 
 -- zeros
 zeros-within : (n k : ℕ) → InRange n (pos 0) → All (Within n) (replicate k (pos 0))
@@ -133,52 +133,52 @@ module _ (n : Counts) where
   guard-has r f t = (
     omega arith,
     each-within 999 sort.Coefficient refl (guardOf r .coefficients .at) (drop counters (guardRow counters))
-        (drop counters (rowOf kind.Guard (guardOf r))) (λ j h. f .ranged j (omega arith)),
+        (drop counters (rowOf kind.Guard (guardOf r))) (λ j. f .ranged (suc j)),
   )
 
   move-has : (r : List Field) → Given kind.Move (moveOf r)
   unfolding rowOf ruleAt shapeOf moveOf perCounter
   move-has r f t =
       let m = moveOf r in
-      let g = names (n .guards) (m .guard1) (either n (isNumber (reference (m .guard2) .content)) kind.Guard _ (t (2 + counters) (lit< tt))) in
-      let h = names (n .guards) (m .guard2) (t (3 + counters) (lit< tt)) in (
+      let g = names (n .guards) (m .guard1) (either n (isNumber (reference (m .guard2) .content)) kind.Guard _ (t (3 + counters))) in
+      let h = names (n .guards) (m .guard2) (t (4 + counters)) in (
         all-both g h,
         each-within 9999 sort.Update refl (m .updates .at)
-            (drop (2 + counters) (moveRow counters (inFilled (shape kind.Move (rowOf kind.Move m) .filled)))) (drop (2 + counters) (rowOf kind.Move m)) (λ j h. f .ranged (suc (suc j)) (omega arith)),
+            (drop (2 + counters) (moveRow counters (inFilled (shape kind.Move (rowOf kind.Move m) .filled)))) (drop (2 + counters) (rowOf kind.Move m)) (λ j. f .ranged (suc (suc (suc j)))),
       )
 
   terms-have : (a b : ℕ) (z : ℤ) (u v : Term) → There n kind.Sentence (rowOf kind.Sentence (record { form = form.Until a b z u v })) →
       TermRefers (n .sentences) u × TermRefers (n .sentences) v
   unfolding rowOf ruleAt shapeOf
   terms-have a b z term.None term.None t = (tt, tt)
-  terms-have a b z term.None (term.Some c s) t = (tt, leb-false (n .sentences) s (t 7 (lit< tt)))
-  terms-have a b z (term.Some c s) term.None t = (leb-false (n .sentences) s (t 5 (lit< tt)), tt)
-  terms-have a b z (term.Some c s) (term.Some d r) t = (leb-false (n .sentences) s (t 5 (lit< tt)), leb-false (n .sentences) r (t 7 (lit< tt)))
+  terms-have a b z term.None (term.Some c s) t = (tt, leb-false (n .sentences) s (t 8))
+  terms-have a b z (term.Some c s) term.None t = (leb-false (n .sentences) s (t 6), tt)
+  terms-have a b z (term.Some c s) (term.Some d r) t = (leb-false (n .sentences) s (t 6), leb-false (n .sentences) r (t 8))
 
   form-has : (f : Form) → There n kind.Sentence (rowOf kind.Sentence (record { form = f })) → Refers (n .sentences) f
   unfolding rowOf ruleAt shapeOf
   form-has form.True t = tt
   form-has (form.Proposition p) t = tt
   form-has (form.Guard g) t = tt
-  form-has (form.And a b) t = (leb-false (n .sentences) a (t 1 (lit< tt)), leb-false (n .sentences) b (t 2 (lit< tt)))
-  form-has (form.Not a) t = leb-false (n .sentences) a (t 1 (lit< tt))
-  form-has (form.Next a) t = leb-false (n .sentences) a (t 1 (lit< tt))
+  form-has (form.And a b) t = (leb-false (n .sentences) a (t 2), leb-false (n .sentences) b (t 3))
+  form-has (form.Not a) t = leb-false (n .sentences) a (t 2)
+  form-has (form.Next a) t = leb-false (n .sentences) a (t 2)
   form-has (form.Until a b z u v) t =
       let w = terms-have a b z u v t in
-      (leb-false (n .sentences) a (t 1 (lit< tt)), leb-false (n .sentences) b (t 2 (lit< tt)), w .0, w .1)
+      (leb-false (n .sentences) a (t 2), leb-false (n .sentences) b (t 3), w .0, w .1)
 
   place-has : (s : ℕ) (w : Ref) (k : ℕ) (m : LoopMark) → Given kind.Place (record { state = s; way = w; marks = k; mark = m })
   unfolding rowOf ruleAt shapeOf
-  place-has s w k m f t = (leb-false (n .states) s (t 0 (lit< tt)), names (n .moves) w (t 1 (lit< tt)), go m f t)
+  place-has s w k m f t = (leb-false (n .states) s (t 1), names (n .moves) w (t 2), go m f t)
     where
       go : (m : LoopMark) →
           let x : Place = record { state = s; way = w; marks = k; mark = m } in
           Fit kind.Place (rowOf kind.Place x) → There n kind.Place (rowOf kind.Place x) → MarkHas (n .moves) m
       go mark.None f t = tt
       go (mark.Counted l r b) f t =
-          let p = from-to 1 1000000 r (f .ranged 4 (lit< tt)) in
-          (from-to 1 64 l (f .ranged 3 (lit< tt)) .0, leb-false (n .moves) b (t 5 (lit< tt)), p .0, p .1)
-      go (mark.Endless l b) f t = (from-to 1 64 l (f .ranged 3 (lit< tt)) .0, leb-false (n .moves) b (t 5 (lit< tt)))
+          let p = from-to 1 1000000 r (f .ranged 5) in
+          (from-to 1 64 l (f .ranged 4) .0, leb-false (n .moves) b (t 6), p .0, p .1)
+      go (mark.Endless l b) f t = (from-to 1 64 l (f .ranged 4) .0, leb-false (n .moves) b (t 6))
 
   item-has : (k : Kind) (x : Item k) → itemOf k (rowOf k x) ≡ x → Given k x
   item-has kind.State x e = λ f t. tt

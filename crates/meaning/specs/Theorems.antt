@@ -75,8 +75,8 @@ same-truth = answers.same-truth
 
 -- ---- document 01's ceilings
 
--- before the end of the endless loop's first round no counter passes 640,000,000,000 either way, and no sum of a guard 3,000,000,000,000,000;
--- where the counters are within b at the start, and not all 0: b more, and 999 * b more for each counter
+-- before the end of the endless loop's first round no counter passes 640,000,000,000 either way, and no sum of a guard 3,000,000,000,000,000,
+-- beside what the start adds: b to a counter, where all are within b, and to a sum 999 * b for each counter
 pub counter-ceiling-from : (c : Case) → Sound c → (θ : Counters) (b : ℕ) → ((j : ℕ) → Within b (θ j)) →
     (m : Moment) → Early (itemsOf c .places) m → (j : ℕ) → Within (640000000000 + b) (counters (itemsOf c) θ m j)
 counter-ceiling-from c s = ceilings.counter-ceiling (itemsOf c) (facts c s)
@@ -86,6 +86,7 @@ pub sum-ceiling-from : (c : Case) → Sound c → (θ : Counters) (b : ℕ) → 
     Within (3000000000000000 + table.counters * 999 * b) (sum (guardAt (itemsOf c .guards) g .coefficients .at) (counters (itemsOf c) θ m))
 sum-ceiling-from c s = ceilings.sum-ceiling (itemsOf c) (facts c s)
 
+-- as each case starts
 pub counter-ceiling : (c : Case) → Sound c → (m : Moment) → Early (itemsOf c .places) m → (j : ℕ) →
     Within 640000000000 (counters (itemsOf c) (startOf (itemsOf c)) m j)
 unfolding startOf

@@ -42,11 +42,11 @@ isLong n len = ltb (roomOf kind.Place) (n + len)
 
 -- a loop mark inside an open loop, or one whose loop would pass the last place
 abbrev pub isBarred : Loops → ℕ → List Field → Bool
-isBarred l n r = isNumber (at r 3) && (isOpen l n || isLong n (natural (at r 3)))
+isBarred l n r = isNumber (at r 4) && (isOpen l n || isLong n (natural (at r 4)))
 
 -- 26: field 2 filled at place 0, or blank later
 unfoldable pub wayAnswer : ℕ → List Field → Answer
-wayAnswer n r = cond (cond (eqb n 0) (isNumber (at r 1)) (isBlank (at r 1))) WrongWayIn Taken
+wayAnswer n r = cond (cond (eqb n 0) (isNumber (at r 2)) (isBlank (at r 2))) WrongWayIn Taken
 
 -- 25: a loop mark that may not stand there
 unfoldable pub markAnswer : Loops → ℕ → List Field → Answer

@@ -156,7 +156,7 @@ impl Loops {
         requires { ⌜ n ≤ roomOf kind.Place ⌝ }
         ensures { λ r. ⌜ r ≡ isBarred self n (row .fields) ⌝ }
     {
-        let length = items::content_at(row, 3);
+        let length = items::content_at(row, 4);
         if kinds::is_number(length) {
             let end = self.end;
             if n < end.0 {
@@ -184,14 +184,14 @@ impl Loops {
 fn way_answer(n: usize, row: Record) -> Answer
     ensures { λ r. ⌜ r ≡ wayAnswer n (row .fields) ⌝ }
 {
-    let filled = kinds::is_number(items::content_at(row, 1));
+    let filled = kinds::is_number(items::content_at(row, 2));
     if n == 0 {
         if filled {
             return Answer::WrongWayIn;
         }
         return Answer::Taken;
     }
-    if faults::is_blank(items::content_at(row, 1)) {
+    if faults::is_blank(items::content_at(row, 2)) {
         return Answer::WrongWayIn;
     }
     Answer::Taken
@@ -236,8 +236,8 @@ fn state_answer(count: Counts, loops: Loops, kind: Kind, row: Record, absent: us
     if room_of(kind) <= count.of(kind) {
         return Answer::NoRoom;
     }
-    if absent < Record::FIELDS {
-        return Answer::NotThere((absent + 1) as u8);
+    if absent <= Record::FIELDS {
+        return Answer::NotThere(absent as u8);
     }
     layout_answer(count, loops, kind, row)
 }
@@ -261,7 +261,7 @@ fn answer_of(count: Counts, loops: Loops, kind: Kind, row: Record) -> Answer
 {
     let shape = kinds::shape_of(kind, row);
     if faults::fits(count, shape, row) {
-        return state_answer(count, loops, kind, row, Record::FIELDS);
+        return state_answer(count, loops, kind, row, Record::FIELDS + 1);
     }
     ordered_answer(count, loops, kind, row)
 }

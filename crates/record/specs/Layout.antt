@@ -1,7 +1,8 @@
 -- Where a record has its letter, its fields and its line feed.
-use mathlib.Core.List.{List}
-use Prim.Native.Nat.{ℕ, _+_, _*_}
-use lib.ListN.{take, drop, getD}
+use mathlib.Core.List.{List, []}
+use Prim.Native.Nat.{ℕ, zero, suc, _+_, _*_}
+use lib.ListN.{take, drop}
+use Rattle.integer.specs.Lists.{nth}
 use Rattle.integer.specs.Tab.{tab}
 use Rattle.record.specs.declared.Content.the-variants.{Blank}
 use Rattle.record.specs.declared.Content.{Content}
@@ -21,14 +22,19 @@ fields = 8
 abbrev pub recordLength : ℕ
 recordLength = 1 + fields * width + 1
 
--- field k, counted from 0
+-- the bytes of field f of a record, counted from 1
+abbrev pub bytesAt : List ℕ → ℕ → List ℕ
+bytesAt bs zero = []
+bytesAt bs (suc k) = take width (drop (1 + k * width) bs)
+
+-- field f, counted from 1
 unfoldable pub fieldAt : List ℕ → ℕ → Field
-fieldAt bs k = record { content = contentOf (take width (drop (1 + k * width) bs)) }
+fieldAt bs f = record { content = contentOf (bytesAt bs f) }
 
 -- the row of fields of a record's bytes
 unfoldable pub recordOf : List ℕ → Record
-recordOf bs = record { fields = tab fields 0 (fieldAt bs) }
+recordOf bs = record { fields = tab fields 1 (fieldAt bs) }
 
--- what field k of a row says, counted from 0; blank past the last
+-- what field f of a row says, counted from 1; blank where there is no such field
 abbrev pub at : List Field → ℕ → Content
-at r k = getD r k (record { content = Blank }) .content
+at r f = nth r f (record { content = Blank }) .content

@@ -6,10 +6,10 @@ use Prim.Native.Nat.{ℕ, zero, suc, _+_, _-_, _%_, _≤_, _<_}
 use native.Mathlib.Nat.{mod-eq-of-lt}
 use native.Mathlib.Omega.{arith}
 use borrow.Author.Tests.{ltb-false}
-use lib.Dec.{lit<, lit≤}
+use lib.Dec.{lit≤}
 use lib.IntN.{ℤ, pos, negsuc}
 use lib.Signed.{ltZ, leZ}
-use lib.ListN.{length, getD, take, drop, replicate, length-drop, List·getD-eq-default}
+use lib.ListN.{length, getD, take, drop, replicate, List·getD-eq-default}
 use lib.Seq.{getD-drop}
 use Rattle.integer.specs.Order.{zarith}
 use Rattle.integer.specs.Tests.{neither}
@@ -50,8 +50,8 @@ record Meets (u : Rule) (c : Content) : Type 0 where
   bare : extra u c ≡ false
   ranged : outside u c ≡ false
 
-met : {k : Kind} {r : List Field} → Fit k r → (j : ℕ) → j < fields → Meets (ruleAt (shape k r) j) (at r j)
-met f j h = record { spelled = f .spelled j h; full = f .full j h; bare = f .bare j h; ranged = f .ranged j h }
+met : {k : Kind} {r : List Field} → Fit k r → (j : ℕ) → Meets (ruleAt (shape k r) j) (at r j)
+met f j = record { spelled = f .spelled j; full = f .full j; bare = f .bare j; ranged = f .ranged j }
 
 abbrev field : Content → Field
 field c = record { content = c }
@@ -61,21 +61,21 @@ blank-again Blank m = refl
 blank-again (Number z) m = absurd (true≢false (m .bare))
 blank-again Bad m = absurd (true≢false (m .spelled))
 
-blanks : (rs : List Field) → ((j : ℕ) → j < length rs → Meets rule.Blank (at rs j)) → replicate (length rs) blank ≡ rs
+blanks : (rs : List Field) → ((j : ℕ) → Meets rule.Blank (at rs (suc j))) → replicate (length rs) blank ≡ rs
 blanks [] h = refl
-blanks (x ∷ rs) h = λ i. blank-again (x .content) (h 0 (omega arith)) i ∷ blanks rs (λ j l. h (suc j) (omega arith)) i
+blanks (x ∷ rs) h = λ i. blank-again (x .content) (h 0) i ∷ blanks rs (λ j. h (suc j)) i
 
 -- the rules of a row
 abbrev rulesOf : Kind → List Field → List Rule
 rulesOf k r = let s = shape k r in table.rowOf counters k (s .form) (inFilled (s .filled))
 
 -- past its rules a row is blank
-rest-again : {k : Kind} {r : List Field} → Fit k r → length r ≡ fields → (n : ℕ) → length (rulesOf k r) ≤ n → replicate (length (drop n r)) blank ≡ drop n r
+rest-again : {k : Kind} {r : List Field} → Fit k r → (n : ℕ) → length (rulesOf k r) ≤ n → replicate (length (drop n r)) blank ≡ drop n r
 unfolding ruleAt shapeOf
-rest-again {k} {r} f l n h =
-    blanks (drop n r) (λ j g.
+rest-again {k} {r} f n h =
+    blanks (drop n r) (λ j.
     subst₂ Meets (List·getD-eq-default (rulesOf k r) rule.Blank {n = n + j} (omega arith)) (ap (λ x. x .content) (sym (getD-drop n r j blank)))
-    (met f (n + j) (omega (arith, g, length-drop n r))))
+    (met f (suc (n + j))))
 
 -- a number meets the rule of a field that may not be blank
 needed : (b : Bool) (s : Sort) (z : ℤ) → Meets (neededIf b s) (Number z) → Meets (rule.Needed s) (Number z)
@@ -117,11 +117,11 @@ module _ (s : Sort) where
 
   -- fields in a row that have this rule, in front of others
   shorts-again : Short → (rs : List Field) (us : List Rule) (xs : List Field)
-      → ((j : ℕ) → j < length rs → Meets (getD (replicate (length rs) (rule.Needed s) ++ us) j rule.Blank) (at (rs ++ xs) j))
+      → ((j : ℕ) → Meets (getD (replicate (length rs) (rule.Needed s) ++ us) j rule.Blank) (at (rs ++ xs) (suc j)))
       → map (λ (r : Field). integer (shortOf (integerOf (r .content)))) rs ≡ rs
   shorts-again w [] us xs m = refl
   shorts-again w (r ∷ rs) us xs m =
-      λ i. short-again w (r .content) (m 0 (omega arith)) i ∷ shorts-again w rs us xs (λ j h. m (suc j) (omega arith)) i
+      λ i. short-again w (r .content) (m 0) i ∷ shorts-again w rs us xs (λ j. m (suc j)) i
 
 -- a reference to an item of kind k, needed or not
 module _ (k : Kind) where
@@ -184,19 +184,19 @@ Again k r = Fit k r → rowOf k (itemOf k r) ≡ r
 module _ (g : ℕ → Content) where
   -- a row of fields, by what its first says
   abbrev row : Content → List Field
-  row c = field c ∷ tab (fields - 1) 1 (λ j. field (g j))
+  row c = field c ∷ tab (fields - 1) 2 (λ j. field (g j))
 
   state-again : (c : Content) → Again kind.State (row c)
   unfolding ruleAt shapeOf rowOf stateOf
-  state-again c f = λ i. cut-again sort.Propositions 65535 (refl, refl) c (met f 0 (lit< tt)) i ∷ rest-again f refl 1 (lit≤ tt) i
+  state-again c f = λ i. cut-again sort.Propositions 65535 (refl, refl) c (met f 1) i ∷ rest-again f 1 (lit≤ tt) i
 
   guard-again : (c : Content) → Again kind.Guard (row c)
   unfolding ruleAt shapeOf rowOf guardOf perCounter
   guard-again c f =
       let r = row c in
       let p =
-      shorts-again sort.Coefficient (refl, refl) (take counters r) (drop counters (rulesOf kind.Guard r)) (drop counters r) (λ j h. met f j (omega arith)) in
-      λ i. p i ++ (integer-again sort.Bound (at r counters) (met f counters (lit< tt)) i ∷ rest-again f refl (1 + counters) (lit≤ tt) i)
+      shorts-again sort.Coefficient (refl, refl) (take counters r) (drop counters (rulesOf kind.Guard r)) (drop counters r) (λ j. met f (suc j)) in
+      λ i. p i ++ (integer-again sort.Bound (at r (1 + counters)) (met f (1 + counters)) i ∷ rest-again f (1 + counters) (lit≤ tt) i)
 
   move-again : (c : Content) → Again kind.Move (row c)
   unfolding ruleAt shapeOf rowOf moveOf perCounter
@@ -204,57 +204,57 @@ module _ (g : ℕ → Content) where
       let r = row c in
       let p =
       shorts-again sort.Update (refl, refl) (take counters (drop 2 r)) (drop (2 + counters) (rulesOf kind.Move r)) (drop (2 + counters) r)
-      (λ j h. met f (suc (suc j)) (omega arith)) in
-      let q = reference-again kind.Guard (isNumber (g (3 + counters))) (g (2 + counters)) (met f (2 + counters) (lit< tt)) in
-      let t = reference-again kind.Guard false (g (3 + counters)) (met f (3 + counters) (lit< tt)) in
+      (λ j. met f (suc (suc (suc j)))) in
+      let q = reference-again kind.Guard (isNumber (g (4 + counters))) (g (3 + counters)) (met f (3 + counters)) in
+      let t = reference-again kind.Guard false (g (4 + counters)) (met f (4 + counters)) in
       λ i.
-      item-again kind.State c (met f 0 (lit< tt)) i
-      ∷ item-again kind.State (g 1) (met f 1 (lit< tt)) i
-      ∷ (p i ++ (q i ∷ t i ∷ rest-again f refl (4 + counters) (lit≤ tt) i))
+      item-again kind.State c (met f 1) i
+      ∷ item-again kind.State (g 2) (met f 2) i
+      ∷ (p i ++ (q i ∷ t i ∷ rest-again f (4 + counters) (lit≤ tt) i))
 
   place-again : (c : Content) → Again kind.Place (row c)
   unfolding ruleAt shapeOf rowOf placeOf
   place-again c f =
-      let p = reference-again kind.Move false (g 1) (met f 1 (lit< tt)) in
-      let q = natural-again sort.Marks 1048575 (refl, refl) (g 2) (met f 2 (lit< tt)) .0 in
-      mark-again _ _ _ (g 3) (g 4) (g 5) (met f 3 (lit< tt)) (met f 4 (lit< tt)) (met f 5 (lit< tt))
+      let p = reference-again kind.Move false (g 2) (met f 2) in
+      let q = natural-again sort.Marks 1048575 (refl, refl) (g 3) (met f 3) .0 in
+      mark-again _ _ _ (g 4) (g 5) (g 6) (met f 4) (met f 5) (met f 6)
       ∙ (λ i.
-      item-again kind.State c (met f 0 (lit< tt)) i ∷ p i ∷ q i ∷ field (g 3) ∷ field (g 4) ∷ field (g 5) ∷ rest-again f refl 6 (lit≤ tt) i)
+      item-again kind.State c (met f 1) i ∷ p i ∷ q i ∷ field (g 4) ∷ field (g 5) ∷ field (g 6) ∷ rest-again f 6 (lit≤ tt) i)
 
   -- a form with one part, of sort s
   part-again : (s : Sort) → UpTo s 255 → (n : ℕ) (f : Fit kind.Sentence (row (Number (pos n))))
-      → Meets (rule.Needed s) (g 1) → length (rulesOf kind.Sentence (row (Number (pos n)))) ≤ 2
-      → number n ∷ number (byteOf (g 1)) ∷ replicate (fields - 2) blank ≡ row (Number (pos n))
-  part-again s w n f m l = λ i. number n ∷ cut-again s 255 w (g 1) m i ∷ rest-again f refl 2 l i
+      → Meets (rule.Needed s) (g 2) → length (rulesOf kind.Sentence (row (Number (pos n)))) ≤ 2
+      → number n ∷ number (byteOf (g 2)) ∷ replicate (fields - 2) blank ≡ row (Number (pos n))
+  part-again s w n f m l = λ i. number n ∷ cut-again s 255 w (g 2) m i ∷ rest-again f 2 l i
 
   sentence-again : (c : Content) → Again kind.Sentence (row c)
   unfolding ruleAt shapeOf rowOf sentenceOf formOf
-  sentence-again Blank f = absurd (true≢false (f .full 0 (lit< tt)))
-  sentence-again (Number (pos zero)) f = λ i. number 0 ∷ rest-again f refl 1 (lit≤ tt) i
-  sentence-again (Number (pos (suc zero))) f = part-again sort.Proposition (refl, refl) 1 f (met f 1 (lit< tt)) (lit≤ tt)
-  sentence-again (Number (pos (suc (suc zero)))) f = part-again (sort.Reference kind.Guard) (refl, refl) 2 f (met f 1 (lit< tt)) (lit≤ tt)
+  sentence-again Blank f = absurd (true≢false (f .full 1))
+  sentence-again (Number (pos zero)) f = λ i. number 0 ∷ rest-again f 1 (lit≤ tt) i
+  sentence-again (Number (pos (suc zero))) f = part-again sort.Proposition (refl, refl) 1 f (met f 2) (lit≤ tt)
+  sentence-again (Number (pos (suc (suc zero)))) f = part-again (sort.Reference kind.Guard) (refl, refl) 2 f (met f 2) (lit≤ tt)
   sentence-again (Number (pos (suc (suc (suc zero))))) f =
       λ i.
       number 3
-      ∷ item-again kind.Sentence (g 1) (met f 1 (lit< tt)) i
-      ∷ item-again kind.Sentence (g 2) (met f 2 (lit< tt)) i
-      ∷ rest-again f refl 3 (lit≤ tt) i
+      ∷ item-again kind.Sentence (g 2) (met f 2) i
+      ∷ item-again kind.Sentence (g 3) (met f 3) i
+      ∷ rest-again f 3 (lit≤ tt) i
   sentence-again (Number (pos (suc (suc (suc (suc zero)))))) f =
-      part-again (sort.Reference kind.Sentence) (refl, refl) 4 f (met f 1 (lit< tt)) (lit≤ tt)
+      part-again (sort.Reference kind.Sentence) (refl, refl) 4 f (met f 2) (lit≤ tt)
   sentence-again (Number (pos (suc (suc (suc (suc (suc zero))))))) f =
-      part-again (sort.Reference kind.Sentence) (refl, refl) 5 f (met f 1 (lit< tt)) (lit≤ tt)
+      part-again (sort.Reference kind.Sentence) (refl, refl) 5 f (met f 2) (lit≤ tt)
   sentence-again (Number (pos (suc (suc (suc (suc (suc (suc zero)))))))) f =
-      let a = isNumber (g 6) || isNumber (g 7) in
-      let p = term-again (isNumber (g 5) || a) (isNumber (g 4) || a) (g 4) (g 5) (λ e. rw e) (λ e. rw e) (met f 4 (lit< tt)) (met f 5 (lit< tt)) in
-      let q = term-again (isNumber (g 7)) (isNumber (g 6)) (g 6) (g 7) (λ e. e) (λ e. e) (met f 6 (lit< tt)) (met f 7 (lit< tt)) in
-      let t = integer-again sort.Bound (g 3) (met f 3 (lit< tt)) in
-      (λ i. padded (number 6 ∷ item-again kind.Sentence (g 1) (met f 1 (lit< tt)) i ∷ item-again kind.Sentence (g 2) (met f 2 (lit< tt)) i ∷ t i ∷ (p i ++ q i)))
-      ∙ (λ i. take 8 (row (Number (pos 6))) ++ rest-again f refl 8 (lit≤ tt) i)
+      let a = isNumber (g 7) || isNumber (g 8) in
+      let p = term-again (isNumber (g 6) || a) (isNumber (g 5) || a) (g 5) (g 6) (λ e. rw e) (λ e. rw e) (met f 5) (met f 6) in
+      let q = term-again (isNumber (g 8)) (isNumber (g 7)) (g 7) (g 8) (λ e. e) (λ e. e) (met f 7) (met f 8) in
+      let t = integer-again sort.Bound (g 4) (met f 4) in
+      (λ i. padded (number 6 ∷ item-again kind.Sentence (g 2) (met f 2) i ∷ item-again kind.Sentence (g 3) (met f 3) i ∷ t i ∷ (p i ++ q i)))
+      ∙ (λ i. take fields (row (Number (pos 6))) ++ rest-again f fields (lit≤ tt) i)
   sentence-again (Number (pos (suc (suc (suc (suc (suc (suc (suc n))))))))) f =
-      let h = natural-again sort.Form 6 (refl, refl) _ (met f 0 (lit< tt)) in
+      let h = natural-again sort.Form 6 (refl, refl) _ (met f 1) in
       absurd (omega (arith, h .1))
-  sentence-again (Number (negsuc n)) f = absurd (true≢false (f .ranged 0 (lit< tt)))
-  sentence-again Bad f = absurd (true≢false (f .spelled 0 (lit< tt)))
+  sentence-again (Number (negsuc n)) f = absurd (true≢false (f .ranged 1))
+  sentence-again Bad f = absurd (true≢false (f .spelled 1))
 
   again : (k : Kind) (c : Content) → Again k (row c)
   again kind.State = state-again
@@ -265,4 +265,4 @@ module _ (g : ℕ → Content) where
 
 pub fields-again : (k : Kind) (r : List Field) → length r ≡ fields → Fit k r → rowOf k (itemOf k r) ≡ r
 fields-again k r l =
-    subst (Again k) (tab-again blank r fields l) (again (at r) k (at r 0))
+    subst (Again k) (tab-again blank r fields l) (again (at r) k (at r 1))

@@ -47,6 +47,10 @@ form-outside bs Move e = absurd (false≢true e)
 form-outside bs Sentence e = e
 form-outside bs Place e = absurd (false≢true e)
 
+form-lowest : (bs : List ℕ) (k : Kind) → IsOutside k bs 1 → Lowest (IsOutside k bs) 1
+unfolding ruleAt
+form-lowest bs k h = record { holds = h; before = elim [ zero ↦ λ l w. false≢true w | suc g ↦ λ l w. omega arith ] }
+
 tells-way : (n : ℕ) (t u : Bool) → Tells (cond (eqb n 0) t u) (((n ≡ 0) × (t ≡ true)) ⊎ ((0 < n) × (u ≡ true)))
 tells-way zero t u = (λ e. inl (refl, e), ⊎-elim (λ h. h .1) (λ h. absurd (omega (arith, h .0))))
 tells-way (suc n) t u = rw (eqb·suc-zero n) (λ e. inr (omega arith, e), ⊎-elim (λ h. absurd (omega (arith, h .0))) (λ h. h .1))
@@ -130,7 +134,7 @@ module _ (x : Items) (bs : List ℕ) (k : Kind) (is : IsA k bs) where
       cond-by (Ends x bs 21) (wrongForm (shaped k bs) (recordOf bs)) {x = OutOfRange 1} {y = missingAnswer (shaped k bs) (recordOf bs)}
       (λ e. inr (first x bs (OutOfRange 1)
       (more x bs 15 16 refl (λ f h. false≢true (sym (of-kind bs k is (λ j. HasForm j bs) (h .0) (h .1) (h .2)) ∙ e)) p)
-      (k, is, record { counted = lit≤ tt; holds = form-outside bs k e; before = λ g l m w. omega arith })))
+      (k, is, form-lowest bs k (form-outside bs k e))))
       (λ e. missing-ends e p)
 
   fields-end : Passed x bs 14 → Ends x bs 21 (fieldsAnswer (shaped k bs) (recordOf bs))
@@ -241,7 +245,7 @@ neither-less m n p q = omega arith
 
 lowest-one : (P : ℕ → Type 0) (f g : ℕ) → Lowest P f → Lowest P g → f ≡ g
 lowest-one P f g v w =
-    neither-less f g (λ h. w .before f (v .counted) h (v .holds)) (λ h. v .before g (w .counted) h (w .holds))
+    neither-less f g (λ h. w .before f h (v .holds)) (λ h. v .before g h (w .holds))
 
 both-ways : {A B C D E : Type 0} → (A → C → E) → (A → D → E) → (B → C → E) → (B → D → E) → A ⊎ B → C ⊎ D → E
 both-ways f g h k v w = ⊎-elim (λ a. ⊎-elim (f a) (g a) w) (λ b. ⊎-elim (h b) (k b) w) v

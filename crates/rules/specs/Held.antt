@@ -10,8 +10,7 @@ use native.Mathlib.Omega.{arith}
 use lib.Dec.{eqb, leb, ltb}
 use lib.ListN.{length, take, set, replicate, getD, length-set}
 use lib.Seq.{length-take-le, take-suc-set, set-at, append-snoc}
-use borrow.Author.Tests.{ltb-false, leb-false}
-use Rattle.integer.specs.Lowest.{lowest, lowest-le, lowest-none}
+use borrow.Author.Tests.{leb-false}
 use Rattle.integer.specs.Tests.{cond-by}
 use Rattle.record.specs.declared.Field.{Field}
 use Rattle.record.specs.declared.Record.{Record}
@@ -19,7 +18,6 @@ use Rattle.record.specs.Layout.{fields, at, recordOf}
 use Rattle.kinds.specs.declared.Kind.{Kind}
 use Rattle.kinds.specs.declared.Kind.the-variants.{State, Guard, Move, Sentence, Place}
 use Rattle.kinds.specs.declared.Counts.{Counts}
-use Rattle.kinds.specs.declared.Shape.{Shape}
 use Rattle.kinds.specs.Kinds.{countOf, letterOf, rankOf}
 use Rattle.kinds.specs.Table.{shapeOf, natural, isNumber, isBlank}
 use Rattle.faults.specs.declared.Fault.{Fault}
@@ -38,6 +36,7 @@ use Rattle.plan.specs.Taking.{isTaken, takenOf, takenBy, takenAs, answerOf, las
 use Rattle.rules.specs.Letters.{by-head}
 use Rattle.rules.specs.Rules.{IsA, countsOf}
 use Rattle.rules.specs.Sound.{Sound, Fit, There, arrayOf}
+use Rattle.rules.specs.Stages.{fault-none}
 
 -- the part of Sound that is about arrays and counts
 pub record Kept (c : Case) : Type 0 where
@@ -243,8 +242,8 @@ refused-same c bs e = same-by c bs (headOf bs) e
 -- a place may come as place n, where these loops are held
 pub record Placed (l : Loops) (n : ℕ) (r : List Field) : Type 0 where
   pub before : isClosed l n ≡ false
-  pub mark : (isNumber (at r 3) && (isOpen l n || isLong n (natural (at r 3)))) ≡ false
-  pub way : cond (eqb n 0) (isNumber (at r 1)) (isBlank (at r 1)) ≡ false
+  pub mark : (isNumber (at r 4) && (isOpen l n || isLong n (natural (at r 4)))) ≡ false
+  pub way : cond (eqb n 0) (isNumber (at r 2)) (isBlank (at r 2)) ≡ false
 
 -- a record of kind k may come where so many items and these loops are held
 pub record Next (n : Counts) (l : Loops) (k : Kind) (r : Record) : Type 0 where
@@ -265,49 +264,45 @@ passed : (t : Bool) (a b : Answer) → isTaken a ≡ false → isTaken (cond t a
 passed true a b r e = absurd (true≢false (sym e ∙ r))
 passed false a b r e = (refl, e)
 
--- no field has a fault
-none-has : (f : Fault) (s : Shape) (r : Record) → ltb (lowestFault f s r) fields ≡ false → (j : ℕ) → j < fields → faultAt f s r j ≡ false
-unfolding lowestFault
-none-has f s r e =
-    let t : ℕ → Bool = faultAt f s r in
-    lowest-none t fields (omega (arith, ltb-false (lowest fields 0 t) fields e, lowest-le t fields))
-
-fit-is : (k : Kind) (r : Record) → isTaken (fieldsAnswer (shapeOf k r) r) ≡ true → Fit k (r .fields)
+fit-is : (k : Kind) (bs : List ℕ) → isTaken (fieldsAnswer (shapeOf k (recordOf bs)) (recordOf bs)) ≡ true → Fit k (recordOf bs .fields)
 unfolding fieldsAnswer formAnswer missingAnswer extraAnswer rangeAnswer
-fit-is k r e =
+fit-is k bs e =
+    let r = recordOf bs in
     let s = shapeOf k r in
     let low : Fault → ℕ = λ f. lowestFault f s r in
-    let p0 = passed (ltb (low fault.Misspelled) fields) (Misspelled (low fault.Misspelled + 1)) (formAnswer s r) refl e in
+    let none : (f : Fault) → leb (low f) fields ≡ false → (g : ℕ) → faultAt f s r g ≡ false = λ f h. fault-none f s bs (leb-false (low f) fields h) in
+    let p0 = passed (leb (low fault.Misspelled) fields) (Misspelled (low fault.Misspelled)) (formAnswer s r) refl e in
     let p1 = passed (wrongForm s r) (OutOfRange 1) (missingAnswer s r) refl (p0 .1) in
-    let p2 = passed (ltb (low fault.Missing) fields) (Misfilled (low fault.Missing + 1)) (extraAnswer s r) refl (p1 .1) in
-    let p3 = passed (ltb (low fault.Extra) fields) (Misfilled (low fault.Extra + 1)) (rangeAnswer s r) refl (p2 .1) in
-    let p4 = passed (ltb (low fault.OutOfRange) fields) (OutOfRange (low fault.OutOfRange + 1)) Taken refl (p3 .1) in
+    let p2 = passed (leb (low fault.Missing) fields) (Misfilled (low fault.Missing)) (extraAnswer s r) refl (p1 .1) in
+    let p3 = passed (leb (low fault.Extra) fields) (Misfilled (low fault.Extra)) (rangeAnswer s r) refl (p2 .1) in
+    let p4 = passed (leb (low fault.OutOfRange) fields) (OutOfRange (low fault.OutOfRange)) Taken refl (p3 .1) in
     record {
-      spelled = none-has fault.Misspelled s r (p0 .0);
-      full = none-has fault.Missing s r (p2 .0);
-      bare = none-has fault.Extra s r (p3 .0);
-      ranged = none-has fault.OutOfRange s r (p4 .0);
+      spelled = none fault.Misspelled (p0 .0);
+      full = none fault.Missing (p2 .0);
+      bare = none fault.Extra (p3 .0);
+      ranged = none fault.OutOfRange (p4 .0);
     }
 
 place-is : (l : Loops) (n : ℕ) (r : List Field) → isTaken (placeAnswer l n r) ≡ true → Placed l n r
 unfolding placeAnswer markAnswer wayAnswer
 place-is l n r e =
     let p0 = passed (isClosed l n) (Misplaced 0) (markAnswer l n r) refl e in
-    let p1 = passed (isNumber (at r 3) && (isOpen l n || isLong n (natural (at r 3)))) (Misplaced 4) (wayAnswer n r) refl (p0 .1) in
-    let p2 = passed (cond (eqb n 0) (isNumber (at r 1)) (isBlank (at r 1))) WrongWayIn Taken refl (p1 .1) in
+    let p1 = passed (isNumber (at r 4) && (isOpen l n || isLong n (natural (at r 4)))) (Misplaced 4) (wayAnswer n r) refl (p0 .1) in
+    let p2 = passed (cond (eqb n 0) (isNumber (at r 2)) (isBlank (at r 2))) WrongWayIn Taken refl (p1 .1) in
     record { before = p0 .0; mark = p1 .0; way = p2 .0 }
 
-next-is : (n : Counts) (l : Loops) (k : Kind) (r : Record) → isTaken (orderAnswer n l (shapeOf k r) r) ≡ true → Next n l k r
+next-is : (n : Counts) (l : Loops) (k : Kind) (bs : List ℕ) → isTaken (orderAnswer n l (shapeOf k (recordOf bs)) (recordOf bs)) ≡ true → Next n l k (recordOf bs)
 unfolding orderAnswer roomAnswer thereAnswer shapeOf
-next-is n l k r e =
+next-is n l k bs e =
+    let r = recordOf bs in
     let s = shapeOf k r in
     let m : ℕ = lowestFault (fault.NotThere n) s r in
     let p0 = passed (ltb (rankOf k) (lastRank n)) OutOfOrder (roomAnswer n l s r) refl e in
     let p1 = passed (leb (roomOf k) (countOf n k)) NoRoom (thereAnswer n l s r) refl (p0 .1) in
-    let p2 = passed (ltb m fields) (NotThere (m + 1)) (layoutAnswer k n l (r .fields)) refl (p1 .1) in
+    let p2 = passed (leb m fields) (NotThere m) (layoutAnswer k n l (r .fields)) refl (p1 .1) in
     record {
       room = leb-false (roomOf k) (countOf n k) (p1 .0);
-      there = none-has (fault.NotThere n) s r (p2 .0);
+      there = fault-none (fault.NotThere n) s bs (leb-false m fields (p2 .0));
       place = λ i. place-is l (n .places) (r .fields) (subst (λ j. isTaken (layoutAnswer j n l (r .fields)) ≡ true) i (p2 .1));
     }
 
@@ -332,8 +327,8 @@ module _ (c : Case) (bs : List ℕ) where
       record {
         kind = k;
         letter = r;
-        fit = fit-is k (recordOf bs) (b .0);
-        next = next-is (c .count) (c .loops) k (recordOf bs) (b .1);
+        fit = fit-is k bs (b .0);
+        next = next-is (c .count) (c .loops) k bs (b .1);
         case = ap (λ h. takenBy c h bs .case) e ∙ ap (λ q. cond q (with c k (itemOf k (recordOf bs .fields))) c) t;
       }
 

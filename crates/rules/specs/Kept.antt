@@ -107,7 +107,7 @@ module _ {n m : Counts} (a : AtMost n m) (c : Content) where
   stays (rule.Optional s) e = refers s e
 
 there-more : {n m : Counts} → AtMost n m → (k : Kind) (r : List Field) → There n k r → There m k r
-there-more a k r t j h = stays a (at r j) (ruleAt (shape k r) j) (t j h)
+there-more a k r t f = stays a (at r f) (ruleAt (shape k r) f) (t f)
 
 -- ---- the fields of a place
 
@@ -118,13 +118,13 @@ lengthField (mark.Counted l n b) = content.Number (pos l)
 lengthField (mark.Endless l b) = content.Number (pos l)
 
 field-four : (s : ℕ) (w : Ref) (k : ℕ) (m : LoopMark) →
-    at (rowOf kind.Place (record { state = s; way = w; marks = k; mark = m })) 3 ≡ lengthField m
+    at (rowOf kind.Place (record { state = s; way = w; marks = k; mark = m })) 4 ≡ lengthField m
 unfolding rowOf
 field-four s w k mark.None = refl
 field-four s w k (mark.Counted l n b) = refl
 field-four s w k (mark.Endless l b) = refl
 
-field-two : (p : Place) → at (rowOf kind.Place p) 1 ≡ reference (p .way) .content
+field-two : (p : Place) → at (rowOf kind.Place p) 2 ≡ reference (p .way) .content
 unfolding rowOf
 field-two p = refl
 
@@ -141,11 +141,11 @@ in-range : (b : Bool) (l : ℕ) → outside (neededIf b sort.LoopLength) (conten
 in-range true l e = ltb-false l 1 (neither (ltb l 1) (ltb 64 l) e .0)
 in-range false l e = ltb-false l 1 (neither (ltb l 1) (ltb 64 l) e .0)
 
-long-enough : (r : List Field) → Fit kind.Place r → (l : ℕ) → at r 3 ≡ content.Number (pos l) → 0 < l
+long-enough : (r : List Field) → Fit kind.Place r → (l : ℕ) → at r 4 ≡ content.Number (pos l) → 0 < l
 unfolding ruleAt shapeOf
 long-enough r f l e =
     let x = inFilled (shape kind.Place r .filled) in
-    in-range (x 5 || x 6) l (subst (λ c. outside (ruleAt (shape kind.Place r) 3) c ≡ false) e (f .ranged 3 (omega arith)))
+    in-range (x 5 || x 6) l (subst (λ c. outside (ruleAt (shape kind.Place r) 4) c ≡ false) e (f .ranged 4))
 
 -- the tests of its mark, where n places are held
 mark-fits : (l : Loops) (n : ℕ) (m : LoopMark) → n < roomOf kind.Place → isClosed l n ≡ false →
@@ -191,7 +191,7 @@ one-place : (n : ℕ) (l : Loops) (ps : List Place) (p : Place) → length ps �
     Fit kind.Place (rowOf kind.Place p) → Placed l n (rowOf kind.Place p) → Places (n + 1) (loopsAfter l n (p .mark)) (ps ++ (p ∷ []))
 one-place n l ps p e h s f t =
     let z : n ≡ 0 + length ps = omega arith in
-    let q : at (rowOf kind.Place p) 3 ≡ lengthField (p .mark) = field-four (p .state) (p .way) (p .marks) (p .mark) in
+    let q : at (rowOf kind.Place p) 4 ≡ lengthField (p .mark) = field-four (p .state) (p .way) (p .marks) (p .mark) in
     let w : (n ≡ 0) ↔ (p .way ≡ ref.None) = way-at n (p .way) (rw (field-two p) at (t .way)) in
     let m : MarkFits l n (p .mark) = mark-fits l n (p .mark) h (t .before) (rw q at (t .mark)) (λ j g. long-enough (rowOf kind.Place p) f j (q ∙ g)) in
     record {

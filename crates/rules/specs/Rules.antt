@@ -32,17 +32,16 @@ IsA k bs = getD bs 0 0 ≡ letterOf k
 
 -- what field f says, counted from 1
 abbrev pub contentAt : List ℕ → ℕ → Content
-contentAt bs f = at (recordOf bs .fields) (f - 1)
+contentAt bs f = at (recordOf bs .fields) f
 
 -- the rule of field f, counted from 1, if the record is of kind k
 abbrev pub ruleFor : Kind → List ℕ → ℕ → Rule
-ruleFor k bs f = ruleAt (shapeOf k (recordOf bs)) (f - 1)
+ruleFor k bs f = ruleAt (shapeOf k (recordOf bs)) f
 
--- f is the lowest field of which P is true, counted from 1
+-- f is the lowest field of which P is true
 pub record Lowest (P : ℕ → Type 0) (f : ℕ) : Type 0 where
-  pub counted : 0 < f
   pub holds : P f
-  pub before : (g : ℕ) → 0 < g → g < f → P g → ⊥
+  pub before : (g : ℕ) → g < f → P g → ⊥
 
 -- field f is neither blank nor a number as it is spelled
 abbrev pub IsBad : List ℕ → ℕ → Type 0
@@ -136,7 +135,7 @@ Applies x bs (Misfilled f) =
     (k : Kind)
     × IsA k bs
     × HasForm k bs
-    × (Lowest (IsMissing k bs) f ⊎ (((g : ℕ) → 0 < g → IsMissing k bs g → ⊥) × Lowest (IsExtra k bs) f))
+    × (Lowest (IsMissing k bs) f ⊎ (((g : ℕ) → IsMissing k bs g → ⊥) × Lowest (IsExtra k bs) f))
 Applies x bs (OutOfRange f) = (k : Kind) × IsA k bs × Lowest (IsOutside k bs) f
 Applies x bs OutOfOrder = (k : Kind) × IsA k bs × ((j : Kind) × (rankOf k < rankOf j) × (0 < length (listOf j x)))
 Applies x bs NoRoom = (k : Kind) × IsA k bs × (roomOf k ≤ length (listOf k x))

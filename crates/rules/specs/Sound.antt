@@ -6,7 +6,7 @@ use mathlib.Core.Bool.{true, false}
 use Prim.Native.Nat.{ℕ, _+_, _-_, _≤_, _<_}
 use lib.ListN.{length, getD, replicate}
 use Rattle.record.specs.declared.Field.{Field}
-use Rattle.record.specs.Layout.{fields, at}
+use Rattle.record.specs.Layout.{at}
 use Rattle.kinds.specs.declared.Kind.{Kind}
 use Rattle.kinds.specs.declared.Kind.the-variants as kind
 use Rattle.kinds.specs.declared.Counts.{Counts}
@@ -29,14 +29,14 @@ shape k r = shapeOf k (record { fields = r })
 
 -- a row of fields of kind k meets its rules
 pub record Fit (k : Kind) (r : List Field) : Type 0 where
-  pub spelled : (j : ℕ) → j < fields → misspelled (at r j) ≡ false
-  pub full : (j : ℕ) → j < fields → missing (ruleAt (shape k r) j) (at r j) ≡ false
-  pub bare : (j : ℕ) → j < fields → extra (ruleAt (shape k r) j) (at r j) ≡ false
-  pub ranged : (j : ℕ) → j < fields → outside (ruleAt (shape k r) j) (at r j) ≡ false
+  pub spelled : (f : ℕ) → misspelled (at r f) ≡ false
+  pub full : (f : ℕ) → missing (ruleAt (shape k r) f) (at r f) ≡ false
+  pub bare : (f : ℕ) → extra (ruleAt (shape k r) f) (at r f) ≡ false
+  pub ranged : (f : ℕ) → outside (ruleAt (shape k r) f) (at r f) ≡ false
 
 -- every item that it refers to is there, where so many are held
 abbrev pub There : Counts → Kind → List Field → Type 0
-There n k r = (j : ℕ) → j < fields → notThere n (ruleAt (shape k r) j) (at r j) ≡ false
+There n k r = (f : ℕ) → notThere n (ruleAt (shape k r) f) (at r f) ≡ false
 
 -- item i of a kind refers to what is held; sentence i to sentences below i
 abbrev pub reach : Counts → Kind → ℕ → Counts

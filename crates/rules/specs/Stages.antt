@@ -3,13 +3,14 @@ use mathlib.Core.Path.{_≡_, refl, _∙_, sym, ap, subst}
 use mathlib.Core.Logic.{_⊎_, inr, ⊎-elim}
 use mathlib.Core.List.{List}
 use mathlib.Core.Bool.{Bool, true, false, cond, true≢false}
-use Prim.Native.Nat.{ℕ, zero, suc, _+_, _-_, _≤_, _<_}
+use Prim.Native.Nat.{ℕ, zero, suc, _≤_, _<_}
 use native.Mathlib.Nat.{eq-or-lt-of-le, le-of-suc-le-suc}
 use native.Mathlib.Omega.{arith}
-use lib.Dec.{eqb, ltb, lit≤}
+use native.Mathlib.Decide.{decLt}
+use lib.Dec.{eqb, leb, lit≤}
 use lib.ListN.{length, getD, List·getD-eq-default}
-use borrow.Author.Tests.{ltb-true, ltb-false, ne-eqb}
-use Rattle.integer.specs.Lowest.{lowest, lowest-le, lowest-holds, lowest-before, lowest-none}
+use borrow.Author.Tests.{leb-true, leb-false, ne-eqb}
+use Rattle.integer.specs.Lowest.{lowest, lowest-is}
 use Rattle.integer.specs.Tab.{length-tab}
 use Rattle.integer.specs.Tests.{cond-by, Tells, tells-not}
 use Rattle.record.specs.declared.Content.the-variants as content
@@ -34,32 +35,14 @@ use Rattle.rules.specs.Rules.{Lowest, Applies, IsFirst}
 
 -- ---- the lowest field
 
--- P is true of no field, counted from 1
+-- P is true of no field
 abbrev pub Nowhere : (ℕ → Type 0) → Type 0
-Nowhere P = (g : ℕ) → 0 < g → P g → ⊥
+Nowhere P = (g : ℕ) → P g → ⊥
 
 pub no-lowest : {P : ℕ → Type 0} {f : ℕ} → Nowhere P → Lowest P f → ⊥
-no-lowest {P} {f} none l = none f (l .counted) (l .holds)
+no-lowest {P} {f} none l = none f (l .holds)
 
-module _ (t : ℕ → Bool) where
-  lowest-first : lowest fields 0 t < fields → Lowest (λ g. t (g - 1) ≡ true) (lowest fields 0 t + 1)
-  lowest-first h =
-      let e : lowest fields 0 t ≡ lowest fields 0 t + 1 - 1 = omega arith in
-      record {
-        counted = omega arith;
-        holds = subst (λ k. t k ≡ true) e (lowest-holds t fields h);
-        before = λ g p l w. true≢false (sym w ∙ lowest-before t fields (g - 1) (omega arith));
-      }
-
-  lowest-nowhere : ((k : ℕ) → fields ≤ k → t k ≡ false) → fields ≤ lowest fields 0 t → Nowhere (λ g. t (g - 1) ≡ true)
-  lowest-nowhere past h g p w =
-      let e : lowest fields 0 t ≡ fields = omega (arith, lowest-le t fields) in
-      let f : t (g - 1) ≡ false = cond-by (λ (z : ℕ). t (g - 1) ≡ false) (ltb (g - 1) fields) {x = 0} {y = 0}
-      (λ l. lowest-none t fields e (g - 1) (ltb-true (g - 1) fields l))
-      (λ l. past (g - 1) (ltb-false (g - 1) fields l)) in
-      true≢false (sym w ∙ f)
-
--- past the last field there is no fault: what it says is blank, and so is its rule
+-- there is no field 0 and none past the last, so there is no fault: what it says is blank, and so is its rule
 row-short : (k : Kind) (f : ℕ) (x : ℕ → Bool) → length (rowOf counters k f x) ≤ fields
 row-short State f x = lit≤ tt
 row-short Guard f x = lit≤ tt
@@ -81,16 +64,41 @@ blank-fault fault.Extra = refl
 blank-fault fault.OutOfRange = refl
 blank-fault (fault.NotThere n) = refl
 
-pub past-fault : (f : Fault) (s : Shape) (bs : List ℕ) (k : ℕ) → fields ≤ k → faultAt f s (recordOf bs) k ≡ false
+pub past-fault : (f : Fault) (s : Shape) (bs : List ℕ) (k : ℕ) → (0 < k → fields < k) → faultAt f s (recordOf bs) k ≡ false
 unfolding ruleAt recordOf
-past-fault f s bs k h =
+past-fault f s bs zero h = blank-fault f
+past-fault f s bs (suc k) h =
     let row : List Rule = rowOf counters (s .kind) (s .form) (inFilled (s .filled)) in
     let blank : Field = record { content = content.Blank } in
+    let p : fields < suc k = h (omega arith) in
     let m : length row ≤ k = omega (arith, row-short (s .kind) (s .form) (inFilled (s .filled))) in
-    let l : length (recordOf bs .fields) ≤ k = omega (arith, length-tab (fieldAt bs) fields 0) in
-    ap (λ r. hasFault f r (at (recordOf bs .fields) k)) (List·getD-eq-default row rule.Blank m)
+    let l : length (recordOf bs .fields) ≤ k = omega (arith, length-tab (fieldAt bs) fields 1) in
+    ap (λ r. hasFault f r (at (recordOf bs .fields) (suc k))) (List·getD-eq-default row rule.Blank m)
     ∙ ap (λ c. hasFault f rule.Blank (c .content)) (List·getD-eq-default (recordOf bs .fields) blank l)
     ∙ blank-fault f
+
+module _ (f : Fault) (s : Shape) (bs : List ℕ) where
+  abbrev low : ℕ
+  low = lowestFault f s (recordOf bs)
+
+  -- a field below the lowest with the fault has it not; where there is none, no field has it
+  fault-before : (k : ℕ) → k < low → faultAt f s (recordOf bs) k ≡ false
+  unfolding lowestFault
+  fault-before k h = elim (decLt 0 k) [
+    | yes p ↦ lowest-is (faultAt f s (recordOf bs)) fields 1 .before k p h
+    | no p ↦ past-fault f s bs k (λ q. absurd (omega arith))
+  ]
+
+  pub fault-none : fields < low → (k : ℕ) → faultAt f s (recordOf bs) k ≡ false
+  fault-none h k = elim (decLt fields k) [ yes p ↦ past-fault f s bs k (λ q. p) | no p ↦ fault-before k (omega arith) ]
+
+  fault-first : low ≤ fields → Lowest (λ g. faultAt f s (recordOf bs) g ≡ true) low
+  unfolding lowestFault
+  fault-first h =
+      record {
+        holds = lowest-is (faultAt f s (recordOf bs)) fields 1 .holds (omega arith);
+        before = λ g l w. true≢false (sym w ∙ fault-before g l);
+      }
 
 -- ---- answers by their numbers
 
@@ -127,7 +135,7 @@ module _ (x : Items) (bs : List ℕ) where
   unfolding lowest
   none p a w =
       ⊎-elim (λ e. renumbered a 0 e w) (λ l. p a l w)
-      (eq-or-lt-of-le (lowest-le (λ i. eqb (numberOf (getD (testOrder 0) i Taken)) (numberOf a)) (turnOf 0)))
+      (eq-or-lt-of-le (lowest-is (λ i. eqb (numberOf (getD (testOrder 0) i Taken)) (numberOf a)) (turnOf 0) 0 .within))
 
   pub first : (a : Answer) → Passed (numberOf a) → Applies x bs a → IsFirst x bs a
   first a p w = record { applies = w; earlier = p }
@@ -143,13 +151,11 @@ module _ (x : Items) (bs : List ℕ) where
 
   -- a fault, of which the lowest field is answered
   pub fault-tested : (n : ℕ) (f : Fault) (s : Shape) (refused : ℕ → Answer) {b : Answer}
-      → ((g : ℕ) → Lowest (λ j. faultAt f s (recordOf bs) (j - 1) ≡ true) g → IsFirst x bs (refused g))
-      → (Nowhere (λ j. faultAt f s (recordOf bs) (j - 1) ≡ true) → Ends n b)
+      → ((g : ℕ) → Lowest (λ j. faultAt f s (recordOf bs) j ≡ true) g → IsFirst x bs (refused g))
+      → (Nowhere (λ j. faultAt f s (recordOf bs) j ≡ true) → Ends n b)
       → Ends n (orElse (lowestFault f s (recordOf bs)) refused b)
-  unfolding lowestFault
   fault-tested n f s refused {b} some none =
-      let t : ℕ → Bool = faultAt f s (recordOf bs) in
-      let m : ℕ = lowest fields 0 t in
-      cond-by (Ends n) (ltb m fields) {x = refused (m + 1)} {y = b}
-      (λ e. inr (some (m + 1) (lowest-first t (ltb-true m fields e))))
-      (λ e. none (lowest-nowhere t (past-fault f s bs) (ltb-false m fields e)))
+      let m : ℕ = lowestFault f s (recordOf bs) in
+      cond-by (Ends n) (leb m fields) {x = refused m} {y = b}
+      (λ e. inr (some m (fault-first f s bs (leb-true m fields e))))
+      (λ e. none (λ g w. true≢false (sym w ∙ fault-none f s bs (leb-false m fields e) g)))

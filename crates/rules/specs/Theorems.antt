@@ -63,19 +63,29 @@ taken c bs s h =
       others = λ j n. ap (λ d. listOf j (itemsOf d)) (t .case) ∙ other-kind c j k x n;
     }
 
--- every case that records make is sound
+-- the empty case is sound, and every record, taken or refused, keeps a case so: what `take` and `take_all` hand back may be gone on with, and judged
+pub empty-sound : Sound emptyCase
+empty-sound = sound-empty
+
+pub take-sound : (c : Case) (bs : List ℕ) → Sound c → Sound (takenOf c bs .case)
+take-sound = sound-kept
+
 sound-from : (rs : List (List ℕ)) (c : Case) (m : ℕ) → Sound c → Sound (runFrom c m rs .case)
 unfolding runFrom
 sound-from [] c m s = s
 sound-from (r ∷ rs) c m s =
     let t = takenOf c r in
     cond-by (λ (q : Run). Sound (q .case)) (isTaken (t .answer)) {x = runFrom (t .case) (m + 1) rs} {y = record { case = t .case; answer = t .answer; taken = m }}
-    (λ e. sound-from rs (t .case) (m + 1) (sound-kept c r s))
-    (λ e. sound-kept c r s)
+    (λ e. sound-from rs (t .case) (m + 1) (take-sound c r s))
+    (λ e. take-sound c r s)
 
-pub sound : (bs : List ℕ) → Sound (runOf emptyCase bs .case)
+pub run-sound : (c : Case) (bs : List ℕ) → Sound c → Sound (runOf c bs .case)
 unfolding runOf
-sound bs = sound-from (cut bs) emptyCase 0 sound-empty
+run-sound c bs s = sound-from (cut bs) c 0 s
+
+-- so every case that a file makes is sound
+pub sound : (bs : List ℕ) → Sound (runOf emptyCase bs .case)
+sound bs = run-sound emptyCase bs empty-sound
 
 -- a file all of whose records are taken gives the case that it spells
 pub spelled-case : (bs : List ℕ) → isTaken (runOf emptyCase bs .answer) ≡ true → Spells (cut bs) (runOf emptyCase bs)

@@ -52,19 +52,30 @@ spell-apart y z e =
     let q : Number y ≡ Number z = sym (spell-reads y) ∙ ap contentOf e ∙ spell-reads z in
     cc
 
--- seven bytes are refused where they are neither spaces nor the spelling of a number
-pub bad-neither : (bs : List ℕ) → length bs ≡ width → (contentOf bs ≡ Bad) ↔ ((bs ≡ replicate width space → ⊥) × ((z : ℤ) → Spellable z → bs ≡ spell z → ⊥))
-bad-neither bs l = (
-  λ e. (
-    λ q. let b = spaces-blank width in let o : _≡_ {A = ℕ} 0 1 = cc (ap contentOf q) in omega arith,
-    λ z h q. let b = spell-reads z in let o : _≡_ {A = ℕ} 0 1 = cc (ap contentOf q) in omega arith,
-  ),
-  λ n. go (contentOf bs) refl (n .0) (n .1),
-)
+-- what the bytes of a field say: they are blank where they are spaces, a number where they are its spelling, and bad where they are neither
+pub record ReadAs (bs : List ℕ) (c : Content) : Type 0 where
+  pub blank : (c ≡ Blank) ↔ (bs ≡ replicate width space)
+  pub number : (z : ℤ) → (c ≡ Number z) ↔ ((bs ≡ spell z) × Spellable z)
+  pub bad : (c ≡ Bad) ↔ ((bs ≡ replicate width space → ⊥) × ((z : ℤ) → bs ≡ spell z → Spellable z → ⊥))
+
+-- all of seven bytes say it
+pub read-as : (bs : List ℕ) → length bs ≡ width → ReadAs bs (contentOf bs)
+read-as bs l =
+    record {
+      blank = (λ e. blank-spaces bs e ∙ ap (λ k. replicate k space) l, λ q. ap contentOf q ∙ spaces-blank width);
+      number = λ z. (one-spelling bs z l, λ h. ap contentOf (h .0) ∙ spell-reads z);
+      bad = (
+        λ e. (
+          λ q. let b = spaces-blank width in let o : _≡_ {A = ℕ} 0 1 = cc (ap contentOf q) in omega arith,
+          λ z q h. let b = spell-reads z in let o : _≡_ {A = ℕ} 0 1 = cc (ap contentOf q) in omega arith,
+        ),
+        λ n. go (contentOf bs) refl (n .0) (n .1),
+      );
+    }
   where
-    go : (c : Content) → contentOf bs ≡ c → (bs ≡ replicate width space → ⊥) → ((z : ℤ) → Spellable z → bs ≡ spell z → ⊥) → contentOf bs ≡ Bad
+    go : (c : Content) → contentOf bs ≡ c → (bs ≡ replicate width space → ⊥) → ((z : ℤ) → bs ≡ spell z → Spellable z → ⊥) → contentOf bs ≡ Bad
     go Blank e b s = absurd (b (blank-spaces bs e ∙ ap (λ k. replicate k space) l))
-    go (Number z) e b s = let r = one-spelling bs z l e in absurd (s z (r .1) (r .0))
+    go (Number z) e b s = let r = one-spelling bs z l e in absurd (s z (r .0) (r .1))
     go Bad e b s = e
 
 -- the numbers that a field can spell

@@ -8,10 +8,10 @@ use mir.Val.{SFits, toZ, ofZ}
 use mir.Facts.{toZ-ofZ}
 use Rattle.kinds.specs.declared.Kind.the-variants as kind
 use Rattle.plan.specs.Cases.{roomOf}
+use Rattle.lines.specs.Last.{mostRounds}
 use Rattle.best.specs.declared.Round.{Round}
 use Rattle.best.specs.declared.Ends.{Ends}
 use Rattle.best.specs.Numbers.{nth, roundBy, powerBy, limitBy}
-use Rattle.best.specs.Bounds.{mostRounds}
 use Rattle.best.specs.Over.{round-slight}
 use Rattle.best.proofs.around.Statement.{statement}
 use Rattle.best.proofs.around.Tie as tie

@@ -1,25 +1,29 @@
 -- `faults::fits` meets its contract. The loop's invariant: each field passed is right. The measure is the fields left. Assumes nothing.
 use mathlib.Core.Path.{_≡_, _∙_, sym, ap}
 use mathlib.Core.Bool.{not}
-use Prim.Native.Nat.{_≤_, _-_}
+use Prim.Native.Nat.{_+_, _-_, _<_}
 use native.Mathlib.Omega.{arith}
 use borrow.Author.Needs.{needs}
-use borrow.Author.Tests.{eq-eqb, ne-eqb}
+use borrow.Author.Tests.{lt-ltb, le-ltb}
 use Rattle.integer.specs.Lowest.{lowest, From, from-none, from-more, found, not-found}
 use Rattle.record.specs.Layout.{fields}
+use Rattle.record.proofs.At.{at-is}
 use Rattle.faults.specs.Faults.{faultless}
 use Rattle.faults.proofs.Faultless.{wrongAt}
 use Rattle.faults.proofs.fits.Statement.{statement}
 use Rattle.faults.proofs.fits.Tie as tie
 
 abbrev Inv-loop : tie.InvT-loop
-Inv-loop counts shape row k₀ k = From (wrongAt counts shape (record { fields = row })) fields k × (k ≤ fields)
+Inv-loop counts shape row k₀ k = From (wrongAt counts shape (record { fields = row })) fields 1 k × (0 < k)
 
 abbrev μ-loop : tie.MeasureT-loop
-μ-loop counts shape row k₀ k = fields - k
+μ-loop counts shape row k₀ k = fields + 1 - k
 
 loop-holds : tie.Need-loop-holds Inv-loop μ-loop
-loop-holds c = let a = c .before .args in (from-none (wrongAt (a .counts) (a .shape) (a .row)) fields, search needs)
+loop-holds c = let a = c .before .args in (from-none (wrongAt (a .counts) (a .shape) (a .row)) fields 1, omega arith)
+
+sub-field : tie.Need-sub-field Inv-loop μ-loop
+sub-field c = search needs
 
 mul-field : tie.Need-mul-field Inv-loop μ-loop
 mul-field c = search needs
@@ -38,7 +42,10 @@ tested :
     (c : tie.After-is-right Inv-loop μ-loop) →
     let a = c .before .before .before .before .before .before .args in
     wrongAt (a .counts) (a .shape) (a .row) (c .before .before .before .before .loop .k) ≡ not (c .is-right .result)
-tested c = ap not (sym (simp (c .before .rule-at .ensures) at (c .is-right .ensures)))
+tested c =
+    let l = c .before .before .before .before .loop in
+    let a = c .before .before .before .before .before .before .args in
+    simp (at-is (a .row .fields) (l .k) (l .inv .1)) (ap not (sym (simp (c .before .rule-at .ensures) at (c .is-right .ensures))))
 
 add-k : tie.Need-add-k Inv-loop μ-loop
 add-k c = search needs
@@ -50,7 +57,7 @@ loop-again : tie.Need-loop-again Inv-loop μ-loop
 loop-again c =
     let l = c .before .before .before .before .before .loop in
     let a = c .before .before .before .before .before .before .before .args in
-    (from-more (wrongAt (a .counts) (a .shape) (a .row)) fields (l .k) (omega arith) (tested (c .before) ∙ ap not (c .if1 .taken)) (l .inv .0), omega arith)
+    (from-more (wrongAt (a .counts) (a .shape) (a .row)) fields 1 (l .k) (omega arith) (tested (c .before) ∙ ap not (c .if1 .taken)) (l .inv .0), omega arith)
 
 returns : tie.Need-returns Inv-loop μ-loop
 unfolding faultless
@@ -58,8 +65,8 @@ returns c =
     let l = c .before .before .before .before .before .loop in
     let a = c .before .before .before .before .before .before .before .args in
     let t = wrongAt (a .counts) (a .shape) (a .row) in
-    let e = found t fields (l .k) (omega arith) (tested (c .before) ∙ ap not (c .if1 .left)) (l .inv .0) in
-    sym (ne-eqb (lowest fields 0 t) fields (λ q. omega arith))
+    let e = found t fields 1 (l .k) (omega arith) (tested (c .before) ∙ ap not (c .if1 .left)) (l .inv .0) in
+    sym (le-ltb fields (lowest fields 1 t) (omega arith))
 
 returns-2 : tie.Need-returns-2 Inv-loop μ-loop
 unfolding faultless
@@ -67,8 +74,8 @@ returns-2 c =
     let l = c .before .loop in
     let a = c .before .before .before .args in
     let t = wrongAt (a .counts) (a .shape) (a .row) in
-    let e = not-found t fields (l .k) (omega arith) (l .inv .0) in
-    sym (eq-eqb (lowest fields 0 t) fields (omega arith))
+    let e = not-found t fields 1 (l .k) (omega arith) (l .inv .0) in
+    sym (lt-ltb fields (lowest fields 1 t) (omega arith))
 
 pub fits-spec : {M : Type 1} → statement M
 fits-spec =
@@ -77,6 +84,7 @@ fits-spec =
     Inv-loop
     μ-loop
     loop-holds
+    sub-field
     mul-field
     array-copy-out-field
     rule-at-requires

@@ -9,7 +9,7 @@ use Rattle.items.proofs.form_of.Statement.{statement}
 use Rattle.items.proofs.form_of.Tie as tie
 
 -- the operand, from field 2
-operand : (c : tie.After-byte-of) → c .byte-of .result ≡ byteOf (at (c .before .before .args .row .fields) 1)
+operand : (c : tie.After-byte-of) → c .byte-of .result ≡ byteOf (at (c .before .before .args .row .fields) 2)
 operand c = c .byte-of .ensures ∙ ap byteOf (c .before .content-at .ensures)
 
 content-at-requires : tie.Need-content-at-requires

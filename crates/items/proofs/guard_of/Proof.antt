@@ -11,6 +11,9 @@ use Rattle.items.proofs.guard_of.Tie as tie
 per-counter-requires : tie.Need-per-counter-requires
 per-counter-requires c κs = search needs
 
+add-content-at : tie.Need-add-content-at
+add-content-at c = search needs
+
 content-at-requires : tie.Need-content-at-requires
 content-at-requires c κs = search needs
 
@@ -25,4 +28,4 @@ returns c =
 
 pub guard-of-spec : {M : Type 1} → statement M
 guard-of-spec =
-    tie.close (tie.spec per-counter-requires content-at-requires integer-of-requires returns)
+    tie.close (tie.spec per-counter-requires add-content-at content-at-requires integer-of-requires returns)

@@ -1,6 +1,6 @@
 -- The loop fills the numbers of the counters. Assumes nothing.
 use borrow.Author.Needs.{needs}
-use mathlib.Core.Path.{_≡_, refl, _∙_}
+use mathlib.Core.Path.{_≡_, refl, _∙_, sym, ap}
 use mathlib.Core.List.{List}
 use Prim.Native.Nat.{ℕ, _+_, _-_}
 use native.Mathlib.Omega.{arith}
@@ -11,6 +11,7 @@ use mir.Facts.{toZ-ofZ}
 use Rattle.integer.specs.Tab.{Filled, fill-none, fill-more, fill-all}
 use Rattle.record.specs.declared.Field.{Field}
 use Rattle.record.specs.Layout.{at}
+use Rattle.record.proofs.At.{at-is}
 use Rattle.kinds.specs.Table.{counters}
 use Rattle.items.specs.Items.{shortOf, integerOf, perCounter}
 use Rattle.items.proofs.per_counter.Statement.{statement}
@@ -31,6 +32,9 @@ loop-holds c = fill-none _ counters _ refl
 
 add-field : tie.Need-add-field Inv-loop μ-loop
 add-field c = search needs
+
+sub-field : tie.Need-sub-field Inv-loop μ-loop
+sub-field c = search needs
 
 mul-field : tie.Need-mul-field Inv-loop μ-loop
 mul-field c = search needs
@@ -58,7 +62,7 @@ loop-again c =
     let l = c .before .before .before .loop in
     let a = c .before .before .before .before .before .args in
     let f : SFits w16 (c .short-of .result) = search needs in
-    let e : toZ w16 (ofZ w16 (c .short-of .result)) ≡ each (a .row .fields) (a .from) (l .j) = toZ-ofZ f ∙ c .short-of .ensures in
+    let e : toZ w16 (ofZ w16 (c .short-of .result)) ≡ each (a .row .fields) (a .from) (l .j) = toZ-ofZ f ∙ c .short-of .ensures ∙ ap (λ x. shortOf (integerOf x)) (sym (at-is (a .row .fields) (a .from + l .j) (omega arith))) in
     rw e (fill-more (each (a .row .fields) (a .from)) counters (l .each) (l .j) (omega arith) (l .inv))
 
 returns : tie.Need-returns Inv-loop μ-loop
@@ -76,6 +80,7 @@ per-counter-spec =
     μ-loop
     loop-holds
     add-field
+    sub-field
     mul-field
     array-copy-out-field
     short-of-requires

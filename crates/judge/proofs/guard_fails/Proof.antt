@@ -15,9 +15,9 @@ use Rattle.verdict.specs.Rounds.{roundsBy}
 use Rattle.verdict.specs.Verdict.{firstNot, passes, numberOf}
 use Rattle.forward.specs.declared.Tables.{Tables}
 use Rattle.forward.specs.Tables.{firstsOf}
-use Rattle.marks.specs.declared.Search.the-variants.{At}
+use Rattle.guards.specs.declared.Search.the-variants.{At}
 use Rattle.marks.specs.Known.{first-within, base-is, drift-is}
-use Rattle.marks.specs.Found.{found-end}
+use Rattle.guards.specs.Found.{found-end}
 use Rattle.judge.specs.Told.{toldTest, isNamed}
 use Rattle.judge.specs.Laws.{fails, found-here, found-later, each}
 use Rattle.judge.specs.Ways.{wayNo, way-move, move-below}
@@ -175,8 +175,12 @@ misses-requires c κs =
     let k = l .loop .k in
     let i = c .before .before .before .before .before .before .before .before .before .before .before .before .before in
     test-fits (facts (y .args .t1) (y .pre .0)) (testNo (itemsOf (y .args .t1)) k)
-    (guard-at (y .pre .0) k (i .loop-test .taken) _ (guard-no (c .before .before .before .before .before .before)))
-    (base-is (y .pre .0) (y .pre .1) (k / 2 / 2) (held i) _) (drift-is (y .pre .0) (y .pre .1) (k / 2 / 2) (held i) _) (rounds-are c) (inside i)
+    (record {
+      guard = guard-at (y .pre .0) k (i .loop-test .taken) _ (guard-no (c .before .before .before .before .before .before));
+      base = base-is (y .pre .0) (y .pre .1) (k / 2 / 2) (held i) _;
+      drift = drift-is (y .pre .0) (y .pre .1) (k / 2 / 2) (held i) _;
+    })
+    (rounds-are c) (inside i)
 
 -- the test made is test k
 test : (c : tie.After-misses Inv-loop μ-loop) →
@@ -191,8 +195,12 @@ test c =
     rw (c .misses .ensures)
     (ap₂ (λ q t. isNamed q && not t) (guard-is (c .before .before .before .before .before .before .before .before))
     (test-is (facts (y .args .t1) (y .pre .0)) (testNo (itemsOf (y .args .t1)) k)
-    (guard-at (y .pre .0) k (i .loop-test .taken) _ (guard-no (c .before .before .before .before .before .before .before)))
-    (base-is (y .pre .0) (y .pre .1) (k / 2 / 2) (held i) _) (drift-is (y .pre .0) (y .pre .1) (k / 2 / 2) (held i) _) (rounds-are (c .before))))
+    (record {
+      guard = guard-at (y .pre .0) k (i .loop-test .taken) _ (guard-no (c .before .before .before .before .before .before .before));
+      base = base-is (y .pre .0) (y .pre .1) (k / 2 / 2) (held i) _;
+      drift = drift-is (y .pre .0) (y .pre .1) (k / 2 / 2) (held i) _;
+    })
+    (rounds-are (c .before))))
 
 returns : tie.Need-returns Inv-loop μ-loop
 returns c =

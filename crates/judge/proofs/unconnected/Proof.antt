@@ -10,8 +10,8 @@ use Rattle.rules.specs.Held.{counted}
 use Rattle.meaning.specs.Run.{moveNo}
 use Rattle.meaning.specs.Judged.{waysOf, before}
 use Rattle.verdict.specs.Verdict.{firstNot, connects, numberOf}
-use Rattle.marks.specs.declared.Search.the-variants.{At}
-use Rattle.marks.specs.Found.{found-end}
+use Rattle.guards.specs.declared.Search.the-variants.{At}
+use Rattle.guards.specs.Found.{found-end}
 use Rattle.judge.specs.Told.{toldWay}
 use Rattle.judge.specs.Laws.{fails, found-here, found-later, each}
 use Rattle.judge.specs.Ways.{wayNo, isWay, waysFrom, ways-start, way-move, way-before, way-room, before-below, move-below, way-fails}

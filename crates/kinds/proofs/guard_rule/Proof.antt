@@ -1,5 +1,6 @@
 -- The row of a guard is a coefficient for each counter, then a bound. Assumes nothing.
 use mathlib.Core.Path.{refl}
+use borrow.Author.Needs.{needs}
 use native.Mathlib.Omega.{arith}
 use Rattle.integer.specs.Lists.{past-end, in-run}
 use Rattle.kinds.specs.declared.Rule.the-variants.{Blank}
@@ -10,6 +11,9 @@ use Rattle.kinds.proofs.guard_rule.Tie as tie
 returns : tie.Need-returns
 returns c = in-run Blank (guardRow counters) (c .before .args .k) 0 counters refl (omega arith) (omega arith)
 
+add-if2 : tie.Need-add-if2
+add-if2 c = search needs
+
 returns-2 : tie.Need-returns-2
 returns-2 c = simp (c .if2 .taken)
 
@@ -17,4 +21,4 @@ returns-3 : tie.Need-returns-3
 returns-3 c = past-end Blank (guardRow counters) (c .before .before .args .k) (omega arith)
 
 pub guard-rule-spec : {M : Type 1} → statement M
-guard-rule-spec = tie.close (tie.spec returns returns-2 returns-3)
+guard-rule-spec = tie.close (tie.spec returns add-if2 returns-2 returns-3)

@@ -1,5 +1,6 @@
 -- The form, then n fields of the sort. Assumes nothing.
 use mathlib.Core.List.{_∷_}
+use borrow.Author.Needs.{needs}
 use native.Mathlib.Omega.{arith}
 use lib.ListN.{replicate, length-replicate}
 use lib.Seq.{take-all}
@@ -11,6 +12,9 @@ use Rattle.kinds.proofs.parts_rule.Tie as tie
 
 returns : tie.Need-returns
 returns c = simp (c .if1 .taken)
+
+sub-if2 : tie.Need-sub-if2
+sub-if2 c = search needs
 
 returns-2 : tie.Need-returns-2
 returns-2 c =
@@ -26,4 +30,4 @@ returns-3 c =
     past-end Blank (Needed Form ∷ replicate (a .n) (Needed (a .sort))) (a .k) (omega arith)
 
 pub parts-rule-spec : {M : Type 1} → statement M
-parts-rule-spec = tie.close (tie.spec returns returns-2 returns-3)
+parts-rule-spec = tie.close (tie.spec returns sub-if2 returns-2 returns-3)

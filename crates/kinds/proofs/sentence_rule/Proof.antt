@@ -2,7 +2,7 @@
 use mathlib.Core.Path.{_≡_, refl, _∙_, sym, ap}
 use Prim.Native.Nat.{ℕ}
 use native.Mathlib.Omega.{arith}
-use lib.ListN.{getD}
+use Rattle.integer.specs.Lists.{nth}
 use Rattle.integer.specs.Cases.{no-case}
 use Rattle.kinds.specs.declared.Rule.{Rule}
 use Rattle.kinds.specs.declared.Rule.the-variants.{Blank}
@@ -13,9 +13,9 @@ use Rattle.kinds.proofs.sentence_rule.Tie as tie
 
 -- the row of the form that the number is
 at-form : (c : tie.Start) {f : ℕ} {r : Rule} → c .args .form ≡ f
-    → r ≡ getD (sentenceRow f (inFilled (c .args .filled))) (c .args .k) Blank
-    → r ≡ getD (sentenceRow (c .args .form) (inFilled (c .args .filled))) (c .args .k) Blank
-at-form c e h = h ∙ ap (λ n. getD (sentenceRow n (inFilled (c .args .filled))) (c .args .k) Blank) (sym e)
+    → r ≡ nth (sentenceRow f (inFilled (c .args .filled))) (c .args .k) Blank
+    → r ≡ nth (sentenceRow (c .args .form) (inFilled (c .args .filled))) (c .args .k) Blank
+at-form c e h = h ∙ ap (λ n. nth (sentenceRow n (inFilled (c .args .filled))) (c .args .k) Blank) (sym e)
 
 parts-rule-requires : tie.Need-parts-rule-requires
 parts-rule-requires c κs = search needs
@@ -60,7 +60,7 @@ returns-7 : tie.Need-returns-7
 returns-7 c =
     let a = c .before .before .args in
     c .parts-rule6 .ensures
-    ∙ no-case (λ n. getD (sentenceRow n (inFilled (a .filled))) (a .k) Blank) 7 refl (λ m. refl) (a .form) (λ h. omega arith)
+    ∙ no-case (λ n. nth (sentenceRow n (inFilled (a .filled))) (a .k) Blank) 7 refl (λ m. refl) (a .form) (λ h. omega arith)
 
 pub sentence-rule-spec : {M : Type 1} → statement M
 sentence-rule-spec =

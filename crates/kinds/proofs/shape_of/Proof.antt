@@ -1,7 +1,7 @@
 -- The loop fills the table of filled fields. Assumes nothing.
 use borrow.Author.Needs.{needs}
 use mathlib.Core.Path.{refl}
-use Prim.Native.Nat.{ℕ, _-_}
+use Prim.Native.Nat.{ℕ, suc, _-_}
 use native.Mathlib.Omega.{arith}
 use Rattle.integer.specs.Tab.{Filled, fill-none, fill-more, fill-all}
 use Rattle.record.specs.Layout.{fields, at}
@@ -10,7 +10,7 @@ use Rattle.kinds.proofs.shape_of.Statement.{statement}
 use Rattle.kinds.proofs.shape_of.Tie as tie
 
 abbrev Inv-loop : tie.InvT-loop
-Inv-loop kind row first filled₀ k₀ filled k = Filled (λ (i : ℕ). flagOf (at row i)) fields filled k
+Inv-loop kind row first filled₀ k₀ filled k = Filled (λ (i : ℕ). flagOf (at row (suc i))) fields filled k
 
 abbrev μ-loop : tie.MeasureT-loop
 μ-loop kind row first filled₀ k₀ filled k = fields - k

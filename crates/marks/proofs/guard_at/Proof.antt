@@ -1,6 +1,7 @@
 -- Within the room it is the array's element, and past it there is no guard. Assumes nothing.
+use mathlib.Core.Path.{sym}
 use native.Mathlib.Omega.{arith}
-use Rattle.integer.specs.Lists.{past-end}
+use lib.ListN.{List·getD-eq-default}
 use Rattle.kinds.specs.declared.Kind.the-variants as kind
 use Rattle.plan.specs.Cases.{itemsOf, noItem}
 use Rattle.rules.specs.Held.{counted}
@@ -21,7 +22,7 @@ returns c = at-guards (c .before .before .pre) (c .before .before .args .g) _ (o
 returns-2 : tie.Need-returns-2
 returns-2 c =
     let t = c .before in
-    past-end (noItem kind.Guard) (itemsOf (t .args .t1) .guards) (t .args .g) (omega (arith, counted (t .args .t1) (t .pre) kind.Guard, t .pre .room kind.Guard))
+    sym (List·getD-eq-default (itemsOf (t .args .t1) .guards) (noItem kind.Guard) {n = t .args .g} (omega (arith, counted (t .args .t1) (t .pre) kind.Guard, t .pre .room kind.Guard)))
 
 pub guard-at-spec : {M : Type 1} → statement M
 guard-at-spec = tie.close (tie.spec mul-result element-copy-out-result returns returns-2)

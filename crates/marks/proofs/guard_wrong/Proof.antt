@@ -13,12 +13,14 @@ use Rattle.meaning.specs.Run.{guardAt}
 use Rattle.meaning.specs.Judged.{startOf}
 use Rattle.meaning.specs.Given.{facts}
 use Rattle.verdict.specs.declared.Throughout.{Throughout}
+use Rattle.verdict.specs.Rounds.{loopOf, roundsOf}
 use Rattle.verdict.specs.Verdict.{guardThrough}
 use Rattle.forward.specs.declared.Tables.{Tables}
+use Rattle.guards.specs.Sums.{Known}
 use Rattle.marks.specs.Wrong.{isRight, wrongIn}
 use Rattle.marks.specs.Search.{offFrom, off-start, off-here, off-later, off-end}
 use Rattle.marks.specs.Known.{first-within, rounds-are, base-is, drift-is, right-is}
-use Rattle.marks.specs.Sums.{Known, guard-fits, guard-is}
+use Rattle.marks.specs.Sums.{guard-fits, guard-is}
 use Rattle.marks.proofs.guard_wrong.Statement.{statement}
 use Rattle.marks.proofs.guard_wrong.Tie as tie
 
@@ -110,8 +112,8 @@ module _ (c : tie.After-rounds-of Inv-loop μ-loop) where
   l = c .before .before .before .before .before .before
 
   known :
-      Known (x (t l)) (t l .args .g) (p l) (l .before .before .before .before .before .guard-at .result)
-      (getD (t l .args .t .bases .at) (p l) (record { at = [] })) (getD (t l .args .t .drifts .at) (p l) (record { at = [] })) (c .rounds-of .result)
+      Known (x (t l)) (startOf (x (t l))) (t l .args .g) (p l) (l .before .before .before .before .before .guard-at .result)
+      (getD (t l .args .t .bases .at) (p l) (record { at = [] })) (getD (t l .args .t .drifts .at) (p l) (record { at = [] }))
   known =
       let s = t l .pre .0 in
       let e = t l .pre .1 in
@@ -119,11 +121,13 @@ module _ (c : tie.After-rounds-of Inv-loop μ-loop) where
         guard = l .before .before .before .before .before .guard-at .ensures;
         base = base-is s e (p l) (inside l) _;
         drift = drift-is s e (p l) (inside l) _;
-        rounds = c .rounds-of .ensures ∙ rounds-are s (ap (λ (t : Tables). t .firsts) e) (p l) (room l);
       }
 
+  rounds : c .rounds-of .result ≡ roundsOf (loopOf (x (t l) .places) (p l))
+  rounds = c .rounds-of .ensures ∙ rounds-are (t l .pre .0) (ap (λ (t : Tables). t .firsts) (t l .pre .1)) (p l) (room l)
+
 guard-through-requires : tie.Need-guard-through-requires Inv-loop μ-loop
-guard-through-requires c κs = guard-fits (facts (t (l c) .args .t1) (t (l c) .pre .0)) (known c) (room (l c))
+guard-through-requires c κs = guard-fits (facts (t (l c) .args .t1) (t (l c) .pre .0)) (known c) (rounds c) (room (l c))
 
 bit-requires : tie.Need-bit-requires Inv-loop μ-loop
 bit-requires c κs = search needs
@@ -137,7 +141,7 @@ module _ (c : tie.After-is-right Inv-loop μ-loop) where
   i = l (c .before .before .before)
 
   is : c .before .before .guard-through .result ≡ guardOf (x (t i)) (t i .args .g) (p i)
-  is = c .before .before .guard-through .ensures ∙ guard-is (facts (t i .args .t1) (t i .pre .0)) (known (c .before .before .before))
+  is = c .before .before .guard-through .ensures ∙ guard-is (facts (t i .args .t1) (t i .pre .0)) (known (c .before .before .before)) (rounds (c .before .before .before))
 
   test : c .is-right .result ≡ ok (t i) (p i)
   test = c .is-right .ensures ∙ right-is (t i .pre .0) (p i) (t i .args .i) (guardOf (x (t i)) (t i .args .g)) (c .before .bit .ensures) is

@@ -19,6 +19,9 @@ shape-of-requires c κs = search needs
 fits-requires : tie.Need-fits-requires
 fits-requires c κs = search needs
 
+add-state-answer : tie.Need-add-state-answer
+add-state-answer c = search needs
+
 state-answer-requires : tie.Need-state-answer-requires
 state-answer-requires c κs = sym (faultless-there _ _ _ (fitting c))
 
@@ -35,4 +38,4 @@ returns-2 c = c .ordered-answer .ensures
 pub answer-of-spec : {M : Type 1} → statement M
 answer-of-spec =
     tie.close
-    (tie.spec shape-of-requires fits-requires state-answer-requires returns ordered-answer-requires returns-2)
+    (tie.spec shape-of-requires fits-requires add-state-answer state-answer-requires returns ordered-answer-requires returns-2)

@@ -47,15 +47,12 @@ returns-2 c =
     let a = c .before .before .before .before .before .before .args in
     sym (past1 (c .before .before .before) ∙ simp (le-leb (roomOf (a .kind)) (countOf (a .count) (a .kind)) (omega arith)))
 
-add-t9 : tie.Need-add-t9
-add-t9 c = search needs
-
-cast-t10 : tie.Need-cast-t10
-cast-t10 c = search needs
+cast-t9 : tie.Need-cast-t9
+cast-t9 c = search needs
 
 returns-3 : tie.Need-returns-3
 unfolding thereAnswer
-returns-3 c = sym (past2 (c .before) ∙ simp (sym (c .before .before .before .before .before .before .before .pre), lt-ltb _ _ (c .if3 .taken)))
+returns-3 c = sym (past2 (c .before) ∙ simp (sym (c .before .before .before .before .before .before .before .pre), le-leb _ _ (c .if3 .taken)))
 
 layout-answer-requires : tie.Need-layout-answer-requires
 layout-answer-requires c κs = search needs
@@ -64,7 +61,7 @@ returns-4 : tie.Need-returns-4
 unfolding thereAnswer shapeOf
 returns-4 c =
     c .layout-answer .ensures
-    ∙ sym (past2 (c .before .before) ∙ simp (sym (c .before .before .before .before .before .before .before .before .pre), le-ltb _ _ (c .before .if3 .left)))
+    ∙ sym (past2 (c .before .before) ∙ simp (sym (c .before .before .before .before .before .before .before .before .pre), lt-leb _ _ (c .before .if3 .left)))
 
 pub state-answer-spec : {M : Type 1} → statement M
 state-answer-spec =
@@ -76,8 +73,7 @@ state-answer-spec =
     room-of-requires
     of-requires
     returns-2
-    add-t9
-    cast-t10
+    cast-t9
     returns-3
     layout-answer-requires
     returns-4)

@@ -18,13 +18,13 @@ is-number-requires c κs = search needs
 returns : tie.Need-returns
 unfolding wayAnswer
 returns c =
-    let h : isNumber (at (c .before .before .before .before .args .row .fields) 1) ≡ true = cc in
+    let h : isNumber (at (c .before .before .before .before .args .row .fields) 2) ≡ true = cc in
     simp (eq-eqb _ _ (c .before .if1 .taken), h)
 
 returns-2 : tie.Need-returns-2
 unfolding wayAnswer
 returns-2 c =
-    let h : isNumber (at (c .before .before .before .before .args .row .fields) 1) ≡ false = cc in
+    let h : isNumber (at (c .before .before .before .before .args .row .fields) 2) ≡ false = cc in
     simp (eq-eqb _ _ (c .before .if1 .taken), h)
 
 content-at-requires-2 : tie.Need-content-at-requires-2
@@ -36,13 +36,13 @@ is-blank-requires c κs = search needs
 returns-3 : tie.Need-returns-3
 unfolding wayAnswer
 returns-3 c =
-    let h : isBlank (at (c .before .before .before .before .before .before .args .row .fields) 1) ≡ true = cc in
+    let h : isBlank (at (c .before .before .before .before .before .before .args .row .fields) 2) ≡ true = cc in
     simp (ne-eqb _ _ (c .before .before .before .if1 .left), h)
 
 returns-4 : tie.Need-returns-4
 unfolding wayAnswer
 returns-4 c =
-    let h : isBlank (at (c .before .before .before .before .before .before .args .row .fields) 1) ≡ false = cc in
+    let h : isBlank (at (c .before .before .before .before .before .before .args .row .fields) 2) ≡ false = cc in
     simp (ne-eqb _ _ (c .before .before .before .if1 .left), h)
 
 pub way-answer-spec : {M : Type 1} → statement M

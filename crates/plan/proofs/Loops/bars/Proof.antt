@@ -16,7 +16,7 @@ is-number-requires c κs = search needs
 
 returns : tie.Need-returns
 returns c =
-    let h : isNumber (at (c .before .before .before .before .before .before .args .row .fields) 3) ≡ true = cc in
+    let h : isNumber (at (c .before .before .before .before .before .before .args .row .fields) 4) ≡ true = cc in
     simp (h, lt-ltb _ _ (c .if2 .taken))
 
 natural-of-requires : tie.Need-natural-of-requires
@@ -31,13 +31,13 @@ add-result c = search needs
 returns-2 : tie.Need-returns-2
 returns-2 c =
     let r = c .before .before .before .before .before .before .before .args .row .fields in
-    let h : isNumber (at r 3) ≡ true = cc in
-    let m : natural (at r 3) ≡ c .natural-of .result = cc in
+    let h : isNumber (at r 4) ≡ true = cc in
+    let m : natural (at r 4) ≡ c .natural-of .result = cc in
     simp (h, m, le-ltb _ _ (c .before .if2 .left))
 
 returns-3 : tie.Need-returns-3
 returns-3 c =
-    let h : isNumber (at (c .before .before .before .args .row .fields) 3) ≡ false = cc in
+    let h : isNumber (at (c .before .before .before .args .row .fields) 4) ≡ false = cc in
     simp (h)
 
 pub bars-spec : {M : Type 1} → statement M

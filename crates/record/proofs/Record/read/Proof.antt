@@ -1,7 +1,7 @@
 -- `record::Record::read` meets its contract. The loop's invariant: the fields before k are filled. The measure is the fields left. Assumes nothing.
 use borrow.Author.Needs.{needs}
 use mathlib.Core.Path.{_≡_, refl, _∙_, ap}
-use Prim.Native.Nat.{_+_, _-_, _*_}
+use Prim.Native.Nat.{ℕ, suc, _+_, _-_, _*_}
 use native.Mathlib.Nat.{add-sub-cancel-left}
 use native.Mathlib.Omega.{arith}
 use lib.ListN.{take, drop}
@@ -13,7 +13,7 @@ use Rattle.record.proofs.Record.read.Statement.{statement}
 use Rattle.record.proofs.Record.read.Tie as tie
 
 abbrev Inv-loop : tie.InvT-loop
-Inv-loop bytes fields₀ k₀ fields k = Filled (fieldAt bytes) count fields k
+Inv-loop bytes fields₀ k₀ fields k = Filled (λ (i : ℕ). fieldAt bytes (suc i)) count fields k
 
 abbrev μ-loop : tie.MeasureT-loop
 μ-loop bytes fields₀ k₀ fields k = count - k
@@ -60,9 +60,9 @@ loop-again c =
     let l = c .before .before .before .loop in
     let bs = c .before .before .before .before .before .args .bytes .now in
     let a = 1 + l .k * width in
-    let e : _≡_ {A = Field} (record { content = c .read-field .result }) (fieldAt bs (l .k)) =
+    let e : _≡_ {A = Field} (record { content = c .read-field .result }) (fieldAt bs (suc (l .k))) =
     ap (λ x. record { content = x }) (c .read-field .ensures ∙ ap (λ n. contentOf (take n (drop a bs))) (add-sub-cancel-left a width)) in
-    rw e (fill-more (fieldAt bs) count (l .fields) (l .k) (omega arith) (l .inv))
+    rw e (fill-more (λ (i : ℕ). fieldAt bs (suc i)) count (l .fields) (l .k) (omega arith) (l .inv))
 
 returns : tie.Need-returns Inv-loop μ-loop
 unfolding recordOf

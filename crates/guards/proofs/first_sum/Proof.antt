@@ -4,8 +4,8 @@ use mir.Syntax.{w64}
 use mir.Facts.{toZ-ofZ}
 use lib.IntN.{+ℤ-idr}
 use Rattle.integer.specs.Sizes.{add-fits, add-read}
-use Rattle.marks.proofs.first_sum.Statement.{statement}
-use Rattle.marks.proofs.first_sum.Tie as tie
+use Rattle.guards.proofs.first_sum.Statement.{statement}
+use Rattle.guards.proofs.first_sum.Tie as tie
 
 add-result : tie.Need-add-result
 add-result c =

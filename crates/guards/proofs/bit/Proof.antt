@@ -4,9 +4,9 @@ use native.Mathlib.Omega.{arith}
 use lib.Pow.{pow-mono}
 use borrow.Author.Needs.{needs}
 use Rattle.meaning.specs.Truth.{bit}
-use Rattle.marks.specs.Bits.{bit-past}
-use Rattle.marks.proofs.bit.Statement.{statement}
-use Rattle.marks.proofs.bit.Tie as tie
+use Rattle.guards.specs.Bits.{bit-past}
+use Rattle.guards.proofs.bit.Statement.{statement}
+use Rattle.guards.proofs.bit.Tie as tie
 
 shr-result : tie.Need-shr-result
 shr-result c = search needs

@@ -15,9 +15,9 @@ use Rattle.lines.specs.Last.{lastOf}
 use Rattle.counters.specs.Vectors.{at}
 use Rattle.counters.specs.Sum.{sum}
 use Rattle.counters.specs.Bounds.{sum-size}
-use Rattle.marks.specs.Sums.{throughBy}
-use Rattle.marks.proofs.guard_through.Statement.{statement}
-use Rattle.marks.proofs.guard_through.Tie as tie
+use Rattle.guards.specs.Sums.{throughBy}
+use Rattle.guards.proofs.guard_through.Statement.{statement}
+use Rattle.guards.proofs.guard_through.Tie as tie
 
 module _ (c : tie.After-dot2) where
   abbrev t : tie.Start
