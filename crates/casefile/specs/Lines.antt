@@ -9,9 +9,9 @@ use Rattle.integer.specs.All.{All, none, also}
 use Rattle.record.specs.declared.Content.the-variants.{Number}
 use Rattle.record.specs.Spelling.{space, digit, contentOf}
 use Rattle.record.specs.Spell.{numeral, token}
+use Rattle.record.specs.Layout.{lineFeed}
 use Rattle.spelling.specs.Digits.{numeral-by}
 use Rattle.spelling.specs.Reading.{token-reads}
-use Rattle.faults.specs.Input.{lineFeed}
 use Rattle.meaning.specs.Judged.{Numbers}
 use Rattle.meaning.specs.Given.{all-both}
 use Rattle.line.specs.Line.{lineOf}

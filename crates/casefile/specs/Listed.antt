@@ -26,9 +26,10 @@ use Rattle.items.specs.declared.Ref.{Ref}
 use Rattle.items.specs.declared.Ref.the-variants as ref
 use Rattle.plan.specs.declared.Case.{Case}
 use Rattle.plan.specs.declared.Run.{Run}
-use Rattle.plan.specs.Cases.{Items, listOf, roomOf, emptyCase, itemsOf}
+use Rattle.plan.specs.Cases.{Items, listOf, countsOf, roomOf, emptyCase, itemsOf}
 use Rattle.plan.specs.Taking.{isTaken, takenOf, runFrom, runOf, cut}
-use Rattle.rules.specs.Rules.{Applies, countsOf}
+use Rattle.rules.specs.Rules.{Applies, fieldsOf}
+use Rattle.rules.specs.Tells.{tells-bad, tells-missing, tells-extra, tells-outside, tells-there}
 use Rattle.rules.specs.Files.{size}
 use Rattle.rules.specs.Sound.{Sound}
 use Rattle.rules.specs.Stages.{past-fault}
@@ -97,19 +98,19 @@ module _ (x : Items) (bs : List ℕ) (n : ℕ) (h : n ≤ room) where
   refused answer.NoLineFeed w = no-line-feed h
   refused answer.NoSuchKind w = no-such-kind h
   refused (answer.Misspelled f) l =
-      let (a, b) = in-record fault.Misspelled (shapeOf kind.State (recordOf bs)) bs f (l .holds) in
+      let (a, b) = in-record fault.Misspelled (shapeOf kind.State (recordOf bs)) bs f (tells-bad (fieldsOf bs) f .1 (l .holds)) in
       misspelled h a b
   refused (answer.Misfilled f) (k, is, form, w) =
-      let (a, b) = ⊎-elim (λ l. in-record fault.Missing (shapeOf k (recordOf bs)) bs f (l .holds))
-      (λ (full, l). in-record fault.Extra (shapeOf k (recordOf bs)) bs f (l .holds)) w in
+      let (a, b) = ⊎-elim (λ l. in-record fault.Missing (shapeOf k (recordOf bs)) bs f (tells-missing k (fieldsOf bs) f .1 (l .holds)))
+      (λ (full, l). in-record fault.Extra (shapeOf k (recordOf bs)) bs f (tells-extra k (fieldsOf bs) f .1 (l .holds))) w in
       misfilled h a b
   refused (answer.OutOfRange f) (k, is, l) =
-      let (a, b) = in-record fault.OutOfRange (shapeOf k (recordOf bs)) bs f (l .holds) in
+      let (a, b) = in-record fault.OutOfRange (shapeOf k (recordOf bs)) bs f (tells-outside k (fieldsOf bs) f .1 (l .holds)) in
       out-of-range h a b
   refused answer.OutOfOrder w = out-of-order h
   refused answer.NoRoom w = no-room h
   refused (answer.NotThere f) (k, is, l) =
-      let (a, b) = in-record (fault.NotThere (countsOf x)) (shapeOf k (recordOf bs)) bs f (l .holds) in
+      let (a, b) = in-record (fault.NotThere (countsOf x)) (shapeOf k (recordOf bs)) bs f (tells-there k (fieldsOf bs) f (countsOf x) .1 (l .holds)) in
       not-there h a b
   refused (answer.Misplaced f) (is, w) = ⊎-elim (λ c. rw (c .1) (after-the-end h)) (λ m. rw (m .2) (misplaced h)) w
   refused answer.WrongWayIn w = wrong-way-in h

@@ -6,15 +6,6 @@ use Prim.Native.Nat.{ℕ}
 use Prim.Native.String.{String, len, charAt}
 use Prim.Native.Char.{code}
 use lib.ListN.{take, set}
-use Rattle.integer.specs.Lowest.{lowest}
-use Rattle.integer.specs.Tab.{tab}
-use Rattle.integer.specs.All.{from, gather}
-use Rattle.faults.specs.Faults.{lowestFault}
-use Rattle.faults.specs.Input.{rangeAnswer, extraAnswer, missingAnswer, formAnswer, fieldsAnswer, endedHead, headOf}
-use Rattle.plan.specs.Cases.{emptyCase}
-use Rattle.plan.specs.Taking.{wayAnswer, markAnswer, placeAnswer, thereAnswer, roomAnswer, orderAnswer, takenAs, takenOf, cutFrom, cut, runFrom, runOf}
-use Rattle.plan.specs.Taking as taking
-use Rattle.line.specs.Line.{lineOf}
 use Rattle.record.specs.Spelling.{contentOf, negative, alone, leading, digits}
 use Rattle.record.specs.Spell.{lastDigits, numeral}
 use Rattle.record.specs.Layout.{fieldAt, recordOf}
@@ -22,7 +13,6 @@ use Rattle.kinds.specs.Kinds.{kindOf}
 use Rattle.kinds.specs.Table.{shapeOf, ruleAt}
 use Rattle.counters.specs.Sum.{sum}
 use Rattle.items.specs.Items.{perCounter, stateOf, guardOf, moveOf, formOf, sentenceOf, markOf, placeOf}
-use Rattle.rules.specs.Sound.{loopsFrom}
 use Rattle.meaning.specs.Run.{moveAt}
 use Rattle.meaning.specs.Truth.{bit}
 use Rattle.meaning.specs.Judged.{startOf}
@@ -31,6 +21,15 @@ use Rattle.verdict.specs.Rounds.{firstOf, through}
 use Rattle.verdict.specs.Forward.{ways, drift, base}
 use Rattle.verdict.specs.Best.{greater, step, chain, whole, power, limit, front}
 use Rattle.verdict.specs.Verdict.{formThrough, firstNot, verdict}
+use Rattle.integer.specs.Lowest.{lowest}
+use Rattle.integer.specs.Tab.{tab}
+use Rattle.integer.specs.All.{from, gather}
+use Rattle.faults.specs.Faults.{lowestFault}
+use Rattle.faults.specs.Input.{rangeAnswer, extraAnswer, missingAnswer, formAnswer, fieldsAnswer, endedHead, headOf}
+use Rattle.plan.specs.Cases.{emptyCase, loopsFrom}
+use Rattle.plan.specs.Taking.{wayAnswer, markAnswer, placeAnswer, thereAnswer, roomAnswer, orderAnswer, takenAs, takenOf, cutFrom, cut, runFrom, runOf}
+use Rattle.plan.specs.Taking as taking
+use Rattle.line.specs.Line.{lineOf}
 use Rattle.casefile.specs.Answer.{answerOf}
 
 -- the bytes of lines of text

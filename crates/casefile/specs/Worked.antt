@@ -8,21 +8,12 @@ use Prim.Native.Nat.{ℕ}
 use Prim.Native.String.{String}
 use lib.IntN.{ℤ, pos}
 use lib.ListN.{take, set}
-use Rattle.integer.specs.Lowest.{lowest}
-use Rattle.integer.specs.All.{none, All, also, from, gather}
-use Rattle.faults.specs.declared.Answer.{Answer}
-use Rattle.faults.specs.Faults.{lowestFault}
-use Rattle.faults.specs.Input.{rangeAnswer, extraAnswer, missingAnswer, formAnswer, fieldsAnswer, endedHead, headOf}
-use Rattle.plan.specs.Cases.{Items, emptyCase}
-use Rattle.plan.specs.Taking.{wayAnswer, markAnswer, placeAnswer, thereAnswer, roomAnswer, orderAnswer, takenAs, takenOf, cutFrom, cut, runFrom, runOf}
-use Rattle.plan.specs.Taking as taking
 use Rattle.record.specs.Spelling.{contentOf, negative, alone, leading, digits}
 use Rattle.record.specs.Layout.{fieldAt, recordOf}
 use Rattle.kinds.specs.Kinds.{kindOf}
 use Rattle.kinds.specs.Table.{shapeOf, ruleAt}
 use Rattle.counters.specs.Sum.{sum}
 use Rattle.items.specs.Items.{perCounter, stateOf, guardOf, moveOf, formOf, sentenceOf, markOf, placeOf}
-use Rattle.rules.specs.Sound.{loopsFrom}
 use Rattle.rules.specs.Files.{rowsOf, spelled}
 use Rattle.meaning.specs.declared.Judgement.{Judgement}
 use Rattle.meaning.specs.Run.{Spot, Way, next, spot, taken, moveAt, counters}
@@ -35,6 +26,14 @@ use Rattle.verdict.specs.Rounds.{firstOf, through}
 use Rattle.verdict.specs.Forward.{ways, drift, base}
 use Rattle.verdict.specs.Best.{greater, step, chain, whole, power, limit, front}
 use Rattle.verdict.specs.Verdict.{formThrough, firstNot, verdict}
+use Rattle.faults.specs.declared.Answer.{Answer}
+use Rattle.integer.specs.Lowest.{lowest}
+use Rattle.integer.specs.All.{none, All, also, from, gather}
+use Rattle.faults.specs.Faults.{lowestFault}
+use Rattle.faults.specs.Input.{rangeAnswer, extraAnswer, missingAnswer, formAnswer, fieldsAnswer, endedHead, headOf}
+use Rattle.plan.specs.Cases.{Items, emptyCase, loopsFrom}
+use Rattle.plan.specs.Taking.{wayAnswer, markAnswer, placeAnswer, thereAnswer, roomAnswer, orderAnswer, takenAs, takenOf, cutFrom, cut, runFrom, runOf}
+use Rattle.plan.specs.Taking as taking
 use Rattle.casefile.specs.Answer.{answerOf}
 use Rattle.casefile.specs.Listed.{numbers}
 use Rattle.casefile.specs.Refused.{Refused, refusal, file-refused, file-ends}

@@ -5,7 +5,7 @@ use Prim.Native.Nat.{ℕ, _-_}
 use lib.Dec.{eqb, leb}
 use lib.ListN.{length, getD}
 use Rattle.record.specs.declared.Record.{Record}
-use Rattle.record.specs.Layout.{fields, at, recordLength}
+use Rattle.record.specs.Layout.{fields, at, recordLength, lineFeed}
 use Rattle.kinds.specs.declared.Kind.the-variants.{State, Guard, Move, Sentence, Place}
 use Rattle.kinds.specs.declared.Letter.{Letter}
 use Rattle.kinds.specs.declared.Letter.the-variants.{Names, Unknown}
@@ -19,10 +19,6 @@ use Rattle.faults.specs.declared.Answer.{Answer}
 use Rattle.faults.specs.declared.Answer.the-variants as answer
 use Rattle.kinds.specs.Kinds.{kindOf}
 use Rattle.faults.specs.Faults.{outside, lowestFault}
-
--- the last byte of a record
-abbrev pub lineFeed : ℕ
-lineFeed = 10
 
 -- the answer where the lowest field with a fault is f, and the answer where there is none
 abbrev pub orElse : ℕ → (ℕ → Answer) → Answer → Answer

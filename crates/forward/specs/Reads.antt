@@ -8,7 +8,6 @@ use lib.IntN.{pos}
 use lib.ListN.{length, getD, replicate, List·getD-eq-default}
 use Rattle.kinds.specs.declared.Kind.{Kind}
 use Rattle.kinds.specs.declared.Kind.the-variants as kind
-use Rattle.kinds.specs.Kinds.{countOf}
 use Rattle.kinds.specs.Table.{counters}
 use Rattle.items.specs.declared.Ref.{Ref}
 use Rattle.items.specs.declared.Ref.the-variants as ref
@@ -16,9 +15,9 @@ use Rattle.items.specs.declared.Guard.{Guard}
 use Rattle.items.specs.declared.Move.{Move}
 use Rattle.items.specs.Items.{Item}
 use Rattle.plan.specs.declared.Case.{Case}
-use Rattle.plan.specs.Cases.{listOf, itemsOf, roomOf, noItem}
-use Rattle.rules.specs.Sound.{Sound, arrayOf}
-use Rattle.rules.specs.Held.{counted}
+use Rattle.plan.specs.Cases.{listOf, arraysOf, itemsOf, roomOf, noItem}
+use Rattle.rules.specs.Sound.{Sound}
+use Rattle.rules.specs.Held.{counted, padded, long}
 use Rattle.meaning.specs.Run.{placeAt, moveAt, update, guardAt}
 use Rattle.forward.specs.Tables.{slotOf}
 
@@ -39,12 +38,13 @@ within (x ∷ l) zero d e h = refl
 within (x ∷ l) (suc i) d e h = within l i d e (omega arith)
 
 module _ {c : Case} (s : Sound c) where
-  at-items : (k : Kind) (i : ℕ) → getD (arrayOf k c) i (noItem k) ≡ getD (listOf k (itemsOf c)) i (noItem k)
+  at-items : (k : Kind) (i : ℕ) → getD (listOf k (arraysOf c)) i (noItem k) ≡ getD (listOf k (itemsOf c)) i (noItem k)
   at-items k i =
-      ap (λ l. getD l i (noItem k)) (s .padded k) ∙ at-front (noItem k) (listOf k (itemsOf c)) (roomOf k - countOf (c .count) k) i
+      let l = listOf k (itemsOf c) in
+      ap (λ a. getD a i (noItem k)) (padded s k) ∙ at-front (noItem k) l (roomOf k - length l) i
 
-  in-items : (k : Kind) (i : ℕ) (d : Item k) → i < roomOf k → getD (arrayOf k c) i d ≡ getD (listOf k (itemsOf c)) i (noItem k)
-  in-items k i d h = within (arrayOf k c) i d (noItem k) (omega (arith, s .long k)) ∙ at-items k i
+  in-items : (k : Kind) (i : ℕ) (d : Item k) → i < roomOf k → getD (listOf k (arraysOf c)) i d ≡ getD (listOf k (itemsOf c)) i (noItem k)
+  in-items k i d h = within (listOf k (arraysOf c)) i d (noItem k) (omega (arith, long s k)) ∙ at-items k i
 
   pub at-states : (i : ℕ) → getD (c .states) i (noItem kind.State) ≡ getD (itemsOf c .states) i (noItem kind.State)
   at-states = at-items kind.State

@@ -22,6 +22,10 @@ Tells t P = (t ≡ true) ↔ P
 pub tells-not : (t : Bool) {P : Type 0} → Tells t P → t ≡ false → P → ⊥
 tells-not t w e p = true≢false (sym (w .1 p) ∙ e)
 
+pub tells-false : (t : Bool) {P : Type 0} → Tells t P → (P → ⊥) → t ≡ false
+tells-false true w n = absurd (n (w .0 refl))
+tells-false false w n = refl
+
 pub tells-lt : (a b : ℕ) → Tells (ltb a b) (a < b)
 tells-lt a b = (ltb-true a b, lt-ltb a b)
 

@@ -9,10 +9,11 @@ use Rattle.kinds.specs.declared.Kind.the-variants as kind
 use Rattle.kinds.specs.declared.Counts.{Counts}
 use Rattle.items.specs.declared.Place.{Place}
 use Rattle.plan.specs.declared.Case.{Case}
+use Rattle.plan.specs.declared.Derived.{Derived}
 use Rattle.plan.specs.Cases.{Items, noItem, itemsOf}
 use Rattle.plan.specs.Taking.{isClosed}
 use Rattle.rules.specs.Sound.{Sound}
-use Rattle.rules.specs.Held.{counted, counts-are}
+use Rattle.rules.specs.Held.{counted, counts-are, derived}
 use Rattle.rules.specs.Files.{size}
 use Rattle.meaning.specs.declared.Judgement.{Judgement}
 use Rattle.meaning.specs.declared.Judgement.the-variants.{Accepted, Unfinished, WrongStart, Unconnected, GuardFails, WrongMark, RootUnmarked}
@@ -89,10 +90,10 @@ module _ {c : Case} (s : Sound c) where
 
   -- 24 doesn't apply
   abbrev isFinished : Bool
-  isFinished = ltb 0 (c .count .sentences) && isClosed (c .loops) (c .count .places)
+  isFinished = ltb 0 (c .count .sentences) && isClosed (c .derived .loops) (c .count .places)
 
   finished-is : isFinished ≡ finished x
-  finished-is = rw (s .derived, counted c s kind.Sentence, counted c s kind.Place)
+  finished-is = rw (ap (λ (d : Derived). d .loops) (derived s), counted c s kind.Sentence, counted c s kind.Place)
 
   held-is : held (c .count) ≡ size x
   held-is = ap held (counts-are c s)

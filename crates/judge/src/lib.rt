@@ -242,7 +242,7 @@ pub fn judge(c: Case) -> Judgement
     ensures { λ r. ⌜ r ≡ verdict (itemsOf c) (startOf (itemsOf c)) ⌝ }
 {
     let count = c.count;
-    let loops = c.loops;
+    let loops = c.derived.loops;
     if !finished(count, loops) {
         return Judgement::Unfinished(held(count));
     }

@@ -1,5 +1,5 @@
 -- The kinds of records: their letters, and the order in which they come.
-use mathlib.Core.Bool.{cond}
+use mathlib.Core.Bool.{Bool, cond}
 use Prim.Native.Nat.{ℕ}
 use lib.Dec.{eqb}
 use Rattle.kinds.specs.declared.Kind.{Kind}
@@ -39,3 +39,11 @@ countOf n Guard = n .guards
 countOf n Move = n .moves
 countOf n Sentence = n .sentences
 countOf n Place = n .places
+
+-- whether two kinds are the same: they have one letter
+abbrev pub same : Kind → Kind → Bool
+same j k = eqb (letterOf j) (letterOf k)
+
+-- counts, kind by kind
+abbrev pub countsBy : (Kind → ℕ) → Counts
+countsBy f = record { states = f State; guards = f Guard; moves = f Move; sentences = f Sentence; places = f Place }

@@ -11,7 +11,7 @@ use Rattle.spelling.specs.Digits.{numeral-one, numeral-more, numeral-length}
 use Rattle.line.specs.declared.Told.{Told}
 use Rattle.line.specs.declared.Line.{Line}
 use Rattle.line.specs.Line.{lineOf, numbersTold, most, longest, holding, pushed, added}
-use Rattle.faults.specs.Input.{lineFeed}
+use Rattle.record.specs.Layout.{lineFeed}
 
 -- ---- the digits of a number
 

@@ -4,7 +4,7 @@ use Prim.Native.Nat.{ℕ, _+_, _-_, _*_}
 use lib.ListN.{length, set, replicate}
 use Rattle.record.specs.Spelling.{space}
 use Rattle.record.specs.Spell.{numeral}
-use Rattle.faults.specs.Input.{lineFeed}
+use Rattle.record.specs.Layout.{lineFeed}
 use Rattle.meaning.specs.Judged.{Numbers}
 use Rattle.line.specs.declared.Told.{Told}
 use Rattle.line.specs.declared.Line.{Line}

@@ -26,6 +26,7 @@ use Rattle.items.specs.declared.Form.the-variants as form
 use Rattle.items.specs.declared.Sentence.{Sentence}
 use Rattle.items.specs.Items.{rowOf}
 use Rattle.rules.specs.Sound.{Sound, Fit}
+use Rattle.rules.specs.Fields.{met}
 use Rattle.rules.specs.Held.{counted}
 use Rattle.meaning.specs.Labels.{worth, weightOf, labelOf}
 
@@ -58,9 +59,9 @@ within z e =
 terms-ranged : (a b : ℕ) (z : ℤ) (t u : Term) → Fit kind.Sentence (rowOf kind.Sentence (record { form = form.Until a b z t u })) → Mild t × Mild u
 unfolding rowOf ruleAt shapeOf
 terms-ranged a b z term.None term.None f = (tt, tt)
-terms-ranged a b z term.None (term.Some d r) f = (tt, within d (f .ranged 7))
-terms-ranged a b z (term.Some c s) term.None f = (within c (f .ranged 5), tt)
-terms-ranged a b z (term.Some c s) (term.Some d r) f = (within c (f .ranged 5), within d (f .ranged 7))
+terms-ranged a b z term.None (term.Some d r) f = (tt, within d (met f 7 .ranged))
+terms-ranged a b z (term.Some c s) term.None f = (within c (met f 5 .ranged), tt)
+terms-ranged a b z (term.Some c s) (term.Some d r) f = (within c (met f 5 .ranged), within d (met f 7 .ranged))
 
 form-ranged : (φ : Form) → Fit kind.Sentence (rowOf kind.Sentence (record { form = φ })) → Ranged φ
 form-ranged form.True f = tt

@@ -35,7 +35,7 @@ use Rattle.meaning.specs.Around.{rowWith}
 
 -- two cases have the same counts, and the same loops beside the items; two results so, and one answer
 abbrev Same : Case → Case → Type 0
-Same c d = (c .count ≡ d .count) × (c .loops ≡ d .loops)
+Same c d = (c .count ≡ d .count) × (c .derived .loops ≡ d .derived .loops)
 
 abbrev SameResult : Result → Result → Type 0
 SameResult t u = (t .answer ≡ u .answer) × Same (t .case) (u .case)
@@ -62,7 +62,7 @@ AllAlike rs qs = (c d : Case) (m : ℕ) → Same c d → runFrom c m rs .answer 
 alike-as : (c d : Case) (k : Kind) (r q : Record) → Same c d → AlikeAs k r q → SameResult (takenAs c k r) (takenAs d k q)
 unfolding takenAs
 alike-as c d k r q s a =
-    let t = isTaken (answerOf (c .count) (c .loops) k r) in
+    let t = isTaken (answerOf (c .count) (c .derived .loops) k r) in
     (e, subst (λ u. Same (cond t (with c k x) c) (cond u (with d k y) d)) (ap isTaken e) (go t))
   where
     x : Item k
@@ -71,8 +71,8 @@ alike-as c d k r q s a =
     y : Item k
     y = itemOf k (q .fields)
 
-    e : answerOf (c .count) (c .loops) k r ≡ answerOf (d .count) (d .loops) k q
-    e = ap₂ (λ n l. answerOf n l k r) (s .0) (s .1) ∙ a .answer (d .count) (d .loops)
+    e : answerOf (c .count) (c .derived .loops) k r ≡ answerOf (d .count) (d .derived .loops) k q
+    e = ap₂ (λ n l. answerOf n l k r) (s .0) (s .1) ∙ a .answer (d .count) (d .derived .loops)
 
     go : (t : Bool) → Same (cond t (with c k x) c) (cond t (with d k y) d)
     go true = let u = same-with c d s k x in let v = a .item d in (u .0 ∙ v .0, u .1 ∙ v .1)
@@ -134,7 +134,7 @@ module _ (g : ℕ → Field) where
     alike-rounds =
         record {
           answer = same-answer;
-          item = λ c. (refl, same-loops (c .loops) (c .count .places) (g 4 .content) (g 6 .content));
+          item = λ c. (refl, same-loops (c .derived .loops) (c .count .places) (g 4 .content) (g 6 .content));
         }
 
 -- two records of places that differ in their rounds alone are taken alike

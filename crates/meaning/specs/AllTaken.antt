@@ -11,18 +11,17 @@ use lib.Seq.{append-snoc}
 use Rattle.record.specs.declared.Field.{Field}
 use Rattle.record.specs.Layout.{recordOf}
 use Rattle.kinds.specs.declared.Kind.{Kind}
-use Rattle.kinds.specs.declared.Kind.the-variants.{State, Guard, Move, Sentence, Place}
 use Rattle.kinds.specs.Kinds.{letterOf}
 use Rattle.faults.specs.declared.Answer.{Answer}
 use Rattle.items.specs.Items.{itemOf}
 use Rattle.plan.specs.declared.Case.{Case}
-use Rattle.plan.specs.Cases.{Items, emptyCase, itemsOf, listOf}
+use Rattle.plan.specs.Cases.{emptyCase, itemsOf, listOf}
 use Rattle.plan.specs.Taking.{isTaken, takenOf, runFrom, runOf, cut}
 use Rattle.rules.specs.Rules.{Applies}
 use Rattle.rules.specs.Files.{rowsOf, spelledBy}
 use Rattle.rules.specs.Sound.{Sound}
 use Rattle.rules.specs.Stages.{refuses}
-use Rattle.rules.specs.Held.{sound-is-kept, taken-with}
+use Rattle.rules.specs.Held.{list-by, items-same, sound-is-kept, taken-with}
 use Rattle.rules.specs.Kept.{sound-empty, sound-kept}
 use Rattle.rules.specs.Spelled.{lists-more, goes-on}
 use Rattle.rules.specs.Theorems.{answers}
@@ -30,18 +29,9 @@ use Rattle.meaning.specs.Files.{AllTaken}
 
 -- ---- the case that records spell
 
--- a case is its lists
-same-items : {x y : Items} → ((k : Kind) → listOf k x ≡ listOf k y) → x ≡ y
-same-items e =
-    λ i. record { states = e State i; guards = e Guard i; moves = e Move i; sentences = e Sentence i; places = e Place i }
-
 -- its items of kind k, record by record
 spelled-list : (k : Kind) (rs : List (List ℕ)) → listOf k (spelledBy rs) ≡ map (itemOf k) (rowsOf k rs)
-spelled-list State rs = refl
-spelled-list Guard rs = refl
-spelled-list Move rs = refl
-spelled-list Sentence rs = refl
-spelled-list Place rs = refl
+spelled-list k rs = list-by (λ j. map (itemOf j) (rowsOf j rs)) k
 
 rows-append : (k : Kind) (rs qs : List (List ℕ)) → rowsOf k (rs ++ qs) ≡ rowsOf k rs ++ rowsOf k qs
 unfolding rowsOf
@@ -67,7 +57,7 @@ pub spelled-more : (c : Case) (ps : List (List ℕ)) (b : List ℕ) → Sound c 
     itemsOf (takenOf c b .case) ≡ spelledBy (ps ++ (b ∷ []))
 unfolding rowsOf
 spelled-more c ps b s e h =
-    same-items (λ k.
+    items-same (λ k.
     sym (append-nil (listOf k (itemsOf (takenOf c b .case))))
     ∙ lists-more c b [] (taken-with c b h) (sound-is-kept s) k
     ∙ ap (λ x. listOf k x ++ map (itemOf k) (rowsOf k (b ∷ []))) e

@@ -13,11 +13,11 @@ use Rattle.integer.specs.Tab.{tab}
 use Rattle.record.specs.declared.Content.{Content}
 use Rattle.record.specs.declared.Field.{Field}
 use Rattle.record.specs.Spelling.{contentOf}
-use Rattle.record.specs.Layout.{fields, width, recordLength, fieldAt, recordOf}
+use Rattle.record.specs.Layout.{fields, width, recordLength, fieldAt, recordOf, lineFeed}
 use Rattle.kinds.specs.Kinds.{kindOf}
 use Rattle.faults.specs.declared.Answer.the-variants.{NotARecord, NoLineFeed}
 use Rattle.faults.specs.declared.Head.the-variants.{Refused}
-use Rattle.faults.specs.Input.{lineFeed, namedHead, endedHead, headOf}
+use Rattle.faults.specs.Input.{namedHead, endedHead, headOf}
 use Rattle.plan.specs.Taking.{cutFrom, cut}
 
 -- where the rounds field of a record begins, and how many bytes come after it

@@ -32,6 +32,7 @@ use Rattle.plan.specs.Taking.{isTaken, takenOf, runFrom, runOf}
 use Rattle.rules.specs.Rules.{IsA, markAt}
 use Rattle.rules.specs.Files.{rowsOf, spelledBy, spelled}
 use Rattle.rules.specs.Sound.{Fit}
+use Rattle.rules.specs.Fields.{met}
 use Rattle.rules.specs.Letters.{one-kind}
 use Rattle.rules.specs.Held.{taken-with}
 use Rattle.rules.specs.Spelled.{rows-same, rows-other, goes-on}
@@ -96,11 +97,11 @@ module _ (g : ℕ → Field) where
   module _ (z : ℤ) (f : Fit kind.Place (rowWith g (Number z))) where
     fit-range : InRange z
     unfolding ruleAt shapeOf
-    fit-range = f .ranged 5
+    fit-range = met f 5 .ranged
 
     fit-counted : (l : ℕ) × (k : ℕ) × (placeOf (rowWith g (Number z)) .mark ≡ mark.Counted l (natural (Number z)) k)
     unfolding ruleAt shapeOf placeOf
-    fit-counted = counted (g 4 .content) (g 6 .content) z (f .full 4) (f .spelled 4)
+    fit-counted = counted (g 4 .content) (g 6 .content) z (met f 4 .full) (met f 4 .spelled)
 
 -- ---- the files, by what is in the rounds field
 

@@ -11,7 +11,7 @@ use lib.IntN.{ℤ, pos, negℤ}
 use lib.Signed.{ltZ}
 use lib.ListN.{length, getD, replicate, drop, List·getD-eq-default}
 use Rattle.integer.specs.Order.{lt-false}
-use Rattle.integer.specs.Tests.{neither}
+use Rattle.integer.specs.Tests.{neither, tells-false}
 use Rattle.record.specs.declared.Content.{Content}
 use Rattle.record.specs.declared.Content.the-variants.{Number}
 use Rattle.record.specs.declared.Field.{Field}
@@ -38,9 +38,11 @@ use Rattle.items.specs.declared.Move.{Move}
 use Rattle.items.specs.declared.Place.{Place}
 use Rattle.items.specs.Items.{Item, itemOf, rowOf, integer, reference, guardOf, moveOf, perCounter}
 use Rattle.plan.specs.declared.Case.{Case}
-use Rattle.plan.specs.Cases.{Items, listOf, itemsOf, roomOf, noItem}
-use Rattle.rules.specs.Rules.{countsOf, markAt, lengthOf}
-use Rattle.rules.specs.Sound.{shape, Sound, Fit, There, reach}
+use Rattle.plan.specs.Cases.{Items, listOf, countsOf, itemsOf, roomOf, noItem}
+use Rattle.rules.specs.Rules.{markAt, lengthOf}
+use Rattle.rules.specs.Tells.{tells-there}
+use Rattle.rules.specs.Sound.{shape, Sound, Fit, reach}
+use Rattle.rules.specs.Fields.{met}
 use Rattle.rules.specs.Held.{counted, counts-are}
 use Rattle.integer.specs.Sums.{le-in}
 use Rattle.integer.specs.All.{All, none, also}
@@ -107,6 +109,10 @@ either : (n : Counts) (b : Bool) (k : Kind) (c : Content) → notThere n (needed
 either n true k c e = e
 either n false k c e = e
 
+-- every field of a row refers to what is held, by the test
+abbrev Held : Counts → Kind → List Field → Type 0
+Held n k r = (f : ℕ) → notThere n (ruleAt (shape k r) f) (at r f) ≡ false
+
 -- ---- an item
 
 -- what a loop mark has, where there are n moves
@@ -126,14 +132,14 @@ Has n kind.Place x = (x .state < n .states) × Names (n .moves) (x .way) × Mark
 module _ (n : Counts) where
   -- an item has it that meets the rules of its kind
   abbrev Given : (k : Kind) → Item k → Type 0
-  Given k x = Fit k (rowOf k x) → There n k (rowOf k x) → Has n k x
+  Given k x = Fit k (rowOf k x) → Held n k (rowOf k x) → Has n k x
 
   guard-has : (r : List Field) → Given kind.Guard (guardOf r)
   unfolding rowOf ruleAt shapeOf guardOf perCounter
   guard-has r f t = (
     omega arith,
     each-within 999 sort.Coefficient refl (guardOf r .coefficients .at) (drop counters (guardRow counters))
-        (drop counters (rowOf kind.Guard (guardOf r))) (λ j. f .ranged (suc j)),
+        (drop counters (rowOf kind.Guard (guardOf r))) (λ j. met f (suc j) .ranged),
   )
 
   move-has : (r : List Field) → Given kind.Move (moveOf r)
@@ -144,10 +150,10 @@ module _ (n : Counts) where
       let h = names (n .guards) (m .guard2) (t (4 + counters)) in (
         all-both g h,
         each-within 9999 sort.Update refl (m .updates .at)
-            (drop (2 + counters) (moveRow counters (inFilled (shape kind.Move (rowOf kind.Move m) .filled)))) (drop (2 + counters) (rowOf kind.Move m)) (λ j. f .ranged (suc (suc (suc j)))),
+            (drop (2 + counters) (moveRow counters (inFilled (shape kind.Move (rowOf kind.Move m) .filled)))) (drop (2 + counters) (rowOf kind.Move m)) (λ j. met f (suc (suc (suc j))) .ranged),
       )
 
-  terms-have : (a b : ℕ) (z : ℤ) (u v : Term) → There n kind.Sentence (rowOf kind.Sentence (record { form = form.Until a b z u v })) →
+  terms-have : (a b : ℕ) (z : ℤ) (u v : Term) → Held n kind.Sentence (rowOf kind.Sentence (record { form = form.Until a b z u v })) →
       TermRefers (n .sentences) u × TermRefers (n .sentences) v
   unfolding rowOf ruleAt shapeOf
   terms-have a b z term.None term.None t = (tt, tt)
@@ -155,7 +161,7 @@ module _ (n : Counts) where
   terms-have a b z (term.Some c s) term.None t = (leb-false (n .sentences) s (t 6), tt)
   terms-have a b z (term.Some c s) (term.Some d r) t = (leb-false (n .sentences) s (t 6), leb-false (n .sentences) r (t 8))
 
-  form-has : (f : Form) → There n kind.Sentence (rowOf kind.Sentence (record { form = f })) → Refers (n .sentences) f
+  form-has : (f : Form) → Held n kind.Sentence (rowOf kind.Sentence (record { form = f })) → Refers (n .sentences) f
   unfolding rowOf ruleAt shapeOf
   form-has form.True t = tt
   form-has (form.Proposition p) t = tt
@@ -173,12 +179,12 @@ module _ (n : Counts) where
     where
       go : (m : LoopMark) →
           let x : Place = record { state = s; way = w; marks = k; mark = m } in
-          Fit kind.Place (rowOf kind.Place x) → There n kind.Place (rowOf kind.Place x) → MarkHas (n .moves) m
+          Fit kind.Place (rowOf kind.Place x) → Held n kind.Place (rowOf kind.Place x) → MarkHas (n .moves) m
       go mark.None f t = tt
       go (mark.Counted l r b) f t =
-          let p = from-to 1 1000000 r (f .ranged 5) in
-          (from-to 1 64 l (f .ranged 4) .0, leb-false (n .moves) b (t 6), p .0, p .1)
-      go (mark.Endless l b) f t = (from-to 1 64 l (f .ranged 4) .0, leb-false (n .moves) b (t 6))
+          let p = from-to 1 1000000 r (met f 5 .ranged) in
+          (from-to 1 64 l (met f 4 .ranged) .0, leb-false (n .moves) b (t 6), p .0, p .1)
+      go (mark.Endless l b) f t = (from-to 1 64 l (met f 4 .ranged) .0, leb-false (n .moves) b (t 6))
 
   item-has : (k : Kind) (x : Item k) → itemOf k (rowOf k x) ≡ x → Given k x
   item-has kind.State x e = λ f t. tt
@@ -222,7 +228,8 @@ module _ (c : Case) (s : Sound c) where
   held k i h =
       let l : i < countOf (c .count) k = omega (arith, counted c s k) in
       subst (λ n. Has (reach n k i) k (getD (listOf k x) i (noItem k))) (counts-are c s)
-      (item-has (reach (c .count) k i) k (getD (listOf k x) i (noItem k)) (s .read k i l) (s .fit k i l) (s .there k i l))
+      (item-has (reach (c .count) k i) k (getD (listOf k x) i (noItem k)) (s .read k i l) (s .fit k i l)
+      (λ f. tells-false _ (tells-there k _ f (reach (c .count) k i)) (s .there k i l f)))
 
   marks : (p : ℕ) → MarkHas (length (x .moves)) (markAt (x .places) p)
   marks p =

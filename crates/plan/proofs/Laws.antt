@@ -10,7 +10,7 @@ use lib.Seq.{take-all, take-length, drop-length, drop-drop}
 use borrow.Author.Tests.{eqb-true, ne-eqb, leb-true, leb-false}
 use Rattle.integer.specs.Lowest.{lowest}
 use Rattle.record.specs.declared.Record.{Record}
-use Rattle.record.specs.Layout.{recordLength, recordOf}
+use Rattle.record.specs.Layout.{recordLength, recordOf, lineFeed}
 use Rattle.kinds.specs.declared.Kind.{Kind}
 use Rattle.kinds.specs.declared.Kind.the-variants as kind
 use Rattle.kinds.specs.declared.Counts.{Counts}
@@ -25,12 +25,12 @@ use Rattle.faults.specs.declared.Head.the-variants.{Of, Refused}
 use Rattle.faults.specs.declared.Answer.{Answer}
 use Rattle.faults.specs.declared.Answer.the-variants.{Taken, NotARecord, NoLineFeed, OutOfOrder, NoRoom}
 use Rattle.faults.specs.Answers.{numberOf, fieldOf, testOrder, turnOf, in-order}
-use Rattle.faults.specs.Input.{fieldsAnswer, lineFeed, namedHead, endedHead, headOf}
+use Rattle.faults.specs.Input.{fieldsAnswer, namedHead, endedHead, headOf}
 use Rattle.plan.specs.declared.Loops.{Loops}
 use Rattle.plan.specs.declared.Case.{Case}
 use Rattle.plan.specs.declared.Result.{Result}
 use Rattle.plan.specs.declared.Run.{Run}
-use Rattle.plan.specs.Cases.{roomOf, oneMore, with}
+use Rattle.plan.specs.Cases.{roomOf, oneMore, with, caseBy, changed, arraysOf}
 use Rattle.plan.specs.Taking.{isTaken, lastRank, thereAnswer, roomAnswer, orderAnswer, answerOf, takenAs, takenBy, takenOf, cutFrom, cut, runFrom, runOf}
 
 -- ---- the records of a file: none at its end, and else the next one and the rest
@@ -109,16 +109,7 @@ kept c k r i x ex ei = ap (with c i) ex ∙ ap (λ j. with c j (itemOf j (r .fie
 
 -- a place stored and counted, with these loops
 abbrev pub placed : Case → Place → Loops → Case
-placed c x l =
-    record {
-      count = oneMore (c .count) kind.Place;
-      loops = l;
-      states = c .states;
-      guards = c .guards;
-      moves = c .moves;
-      sentences = c .sentences;
-      places = set (c .places) (c .count .places) x;
-    }
+placed c x l = caseBy (oneMore (c .count) kind.Place) (record { loops = l }) (changed kind.Place (λ xs. set xs (c .count .places) x) (arraysOf c))
 
 -- what the records give where the next is r, of kind k, and is answered a, which takes it or not
 abbrev pub step : Case → ℕ → List (List ℕ) → Kind → Record → Answer → Bool → Run
@@ -128,7 +119,7 @@ step c m rs k r a t = cond t (runFrom (cond t (stored c k r) c) (m + 1) rs) (rec
 abbrev after : ℕ → List (List ℕ) → Result → Bool → Run
 after m rs x t = cond t (runFrom (x .case) (m + 1) rs) (record { case = x .case; answer = x .answer; taken = m })
 
-pub run-next : (c : Case) (m : ℕ) (bs : List ℕ) (rs : List (List ℕ)) (k : Kind) (r : Record) (a : Answer) (t : Bool) → headOf bs ≡ Of k → r ≡ recordOf bs → a ≡ answerOf (c .count) (c .loops) k r → isTaken a ≡ t → runFrom c m (bs ∷ rs) ≡ step c m rs k r a t
+pub run-next : (c : Case) (m : ℕ) (bs : List ℕ) (rs : List (List ℕ)) (k : Kind) (r : Record) (a : Answer) (t : Bool) → headOf bs ≡ Of k → r ≡ recordOf bs → a ≡ answerOf (c .count) (c .derived .loops) k r → isTaken a ≡ t → runFrom c m (bs ∷ rs) ≡ step c m rs k r a t
 unfolding runFrom takenOf takenAs
 run-next c m bs rs k r a t ek er ea et =
     ap (λ h. after m rs (takenBy c h bs) (isTaken (takenBy c h bs .answer))) ek

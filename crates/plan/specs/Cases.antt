@@ -1,12 +1,13 @@
--- A case: what it holds, the empty one, and one with one item more. The abstract case: the items of each kind as a list.
-use mathlib.Core.List.{List}
-use mathlib.Core.Bool.{true, false}
-use Prim.Native.Nat.{ℕ, _+_}
+-- The abstract case: the items of each kind as a list. A case: the one that holds given items, the empty one, and one with one item more.
+use mathlib.Core.List.{List, [], _∷_, _++_}
+use mathlib.Core.Bool.{true, false, cond}
+use Prim.Native.Nat.{ℕ, _+_, _-_}
 use lib.IntN.{pos}
-use lib.ListN.{take, set, replicate}
+use lib.ListN.{length, take, set, replicate}
 use Rattle.kinds.specs.declared.Kind.{Kind}
 use Rattle.kinds.specs.declared.Kind.the-variants as kind
 use Rattle.kinds.specs.declared.Counts.{Counts}
+use Rattle.kinds.specs.Kinds.{countOf, countsBy, same}
 use Rattle.kinds.specs.Table.{counters}
 use Rattle.items.specs.declared.Ref.the-variants as ref
 use Rattle.items.specs.declared.Form.the-variants as form
@@ -18,6 +19,7 @@ use Rattle.items.specs.declared.Guard.{Guard}
 use Rattle.items.specs.declared.Move.{Move}
 use Rattle.items.specs.declared.Sentence.{Sentence}
 use Rattle.items.specs.declared.Place.{Place}
+use Rattle.plan.specs.declared.Derived.{Derived}
 use Rattle.plan.specs.declared.Case.{Case}
 use Rattle.items.specs.Items.{Item}
 
@@ -48,81 +50,14 @@ loopsAfter l n mark.None = l
 loopsAfter l n (mark.Counted len r b) = record { end = record { 0 = n + len }; endless = false }
 loopsAfter l n (mark.Endless len b) = record { end = record { 0 = n + len }; endless = true }
 
--- the case that holds nothing
-unfoldable pub emptyCase : Case
-emptyCase =
-    record {
-      count = record { states = 0; guards = 0; moves = 0; sentences = 0; places = 0 };
-      loops = noLoops;
-      states = replicate (roomOf kind.State) (noItem kind.State);
-      guards = replicate (roomOf kind.Guard) (noItem kind.Guard);
-      moves = replicate (roomOf kind.Move) (noItem kind.Move);
-      sentences = replicate (roomOf kind.Sentence) (noItem kind.Sentence);
-      places = replicate (roomOf kind.Place) (noItem kind.Place);
-    }
+-- the loops of a row of places, the first of which is place n, after those of l
+unfoldable pub loopsFrom : Loops → ℕ → List Place → Loops
+loopsFrom l n [] = l
+loopsFrom l n (p ∷ ps) = loopsFrom (loopsAfter l n (p .mark)) (n + 1) ps
 
--- the counts with one item of a kind more
-abbrev pub oneMore : Counts → Kind → Counts
-oneMore n kind.State = record { states = n .states + 1; guards = n .guards; moves = n .moves; sentences = n .sentences; places = n .places }
-oneMore n kind.Guard = record { states = n .states; guards = n .guards + 1; moves = n .moves; sentences = n .sentences; places = n .places }
-oneMore n kind.Move = record { states = n .states; guards = n .guards; moves = n .moves + 1; sentences = n .sentences; places = n .places }
-oneMore n kind.Sentence = record { states = n .states; guards = n .guards; moves = n .moves; sentences = n .sentences + 1; places = n .places }
-oneMore n kind.Place = record { states = n .states; guards = n .guards; moves = n .moves; sentences = n .sentences; places = n .places + 1 }
+-- ---- the abstract case
 
--- the case with the item x stored and counted
-abbrev pub with : Case → (k : Kind) → Item k → Case
-with c kind.State x =
-    record {
-      count = oneMore (c .count) kind.State;
-      loops = c .loops;
-      states = set (c .states) (c .count .states) x;
-      guards = c .guards;
-      moves = c .moves;
-      sentences = c .sentences;
-      places = c .places;
-    }
-with c kind.Guard x =
-    record {
-      count = oneMore (c .count) kind.Guard;
-      loops = c .loops;
-      states = c .states;
-      guards = set (c .guards) (c .count .guards) x;
-      moves = c .moves;
-      sentences = c .sentences;
-      places = c .places;
-    }
-with c kind.Move x =
-    record {
-      count = oneMore (c .count) kind.Move;
-      loops = c .loops;
-      states = c .states;
-      guards = c .guards;
-      moves = set (c .moves) (c .count .moves) x;
-      sentences = c .sentences;
-      places = c .places;
-    }
-with c kind.Sentence x =
-    record {
-      count = oneMore (c .count) kind.Sentence;
-      loops = c .loops;
-      states = c .states;
-      guards = c .guards;
-      moves = c .moves;
-      sentences = set (c .sentences) (c .count .sentences) x;
-      places = c .places;
-    }
-with c kind.Place x =
-    record {
-      count = oneMore (c .count) kind.Place;
-      loops = loopsAfter (c .loops) (c .count .places) (x .mark);
-      states = c .states;
-      guards = c .guards;
-      moves = c .moves;
-      sentences = c .sentences;
-      places = set (c .places) (c .count .places) x;
-    }
-
--- the abstract case: the items of each kind, in order
+-- the items of each kind, in order
 pub record Items : Type 0 where
   pub states : List State
   pub guards : List Guard
@@ -138,13 +73,71 @@ listOf kind.Move x = x .moves
 listOf kind.Sentence x = x .sentences
 listOf kind.Place x = x .places
 
+-- items, kind by kind
+abbrev pub itemsBy : ((k : Kind) → List (Item k)) → Items
+itemsBy f =
+    record { states = f kind.State; guards = f kind.Guard; moves = f kind.Move; sentences = f kind.Sentence; places = f kind.Place }
+
+-- how many items of each kind there are
+abbrev pub countsOf : Items → Counts
+countsOf x = countsBy (λ k. length (listOf k x))
+
+-- the items with those of kind k changed by f
+abbrev pub changed : (k : Kind) → (List (Item k) → List (Item k)) → Items → Items
+changed kind.State f x = record { states = f (x .states); guards = x .guards; moves = x .moves; sentences = x .sentences; places = x .places }
+changed kind.Guard f x = record { states = x .states; guards = f (x .guards); moves = x .moves; sentences = x .sentences; places = x .places }
+changed kind.Move f x = record { states = x .states; guards = x .guards; moves = f (x .moves); sentences = x .sentences; places = x .places }
+changed kind.Sentence f x = record { states = x .states; guards = x .guards; moves = x .moves; sentences = f (x .sentences); places = x .places }
+changed kind.Place f x = record { states = x .states; guards = x .guards; moves = x .moves; sentences = x .sentences; places = f (x .places) }
+
+-- the items with one more
+abbrev pub added : Items → (k : Kind) → Item k → Items
+added x k y = changed k (λ l. l ++ (y ∷ [])) x
+
+-- ---- the case
+
+-- what follows from the items and is kept beside them
+abbrev pub derivedOf : Items → Derived
+derivedOf x = record { loops = loopsFrom noLoops 0 (x .places) }
+
+-- the same after one item more, where n counts those before it
+abbrev pub derivedAfter : Derived → Counts → (k : Kind) → Item k → Derived
+derivedAfter d n kind.State x = d
+derivedAfter d n kind.Guard x = d
+derivedAfter d n kind.Move x = d
+derivedAfter d n kind.Sentence x = d
+derivedAfter d n kind.Place x = record { loops = loopsAfter (d .loops) (n .places) (x .mark) }
+
+-- a case with these counts, derived data and arrays
+abbrev pub caseBy : Counts → Derived → Items → Case
+caseBy n d a =
+    record { count = n; derived = d; states = a .states; guards = a .guards; moves = a .moves; sentences = a .sentences; places = a .places }
+
+-- the arrays of a case
+abbrev pub arraysOf : Case → Items
+arraysOf c = record { states = c .states; guards = c .guards; moves = c .moves; sentences = c .sentences; places = c .places }
+
+-- the array of a kind: its items, and empty ones up to the room
+abbrev pub filled : Items → (k : Kind) → List (Item k)
+filled x k = listOf k x ++ replicate (roomOf k - length (listOf k x)) (noItem k)
+
+-- the case that holds these items
+abbrev pub caseOf : Items → Case
+caseOf x = caseBy (countsOf x) (derivedOf x) (itemsBy (filled x))
+
 -- what a case holds, without the room that is left
 abbrev pub itemsOf : Case → Items
-itemsOf c =
-    record {
-      states = take (c .count .states) (c .states);
-      guards = take (c .count .guards) (c .guards);
-      moves = take (c .count .moves) (c .moves);
-      sentences = take (c .count .sentences) (c .sentences);
-      places = take (c .count .places) (c .places);
-    }
+itemsOf c = itemsBy (λ k. take (countOf (c .count) k) (listOf k (arraysOf c)))
+
+-- the case that holds nothing
+unfoldable pub emptyCase : Case
+emptyCase = caseOf (itemsBy (λ k. []))
+
+-- the counts with one item of kind k more
+abbrev pub oneMore : Counts → Kind → Counts
+oneMore n k = countsBy (λ j. cond (same k j) (countOf n j + 1) (countOf n j))
+
+-- the case with the item x stored and counted
+abbrev pub with : Case → (k : Kind) → Item k → Case
+with c k x =
+    caseBy (oneMore (c .count) k) (derivedAfter (c .derived) (c .count) k x) (changed k (λ xs. set xs (countOf (c .count) k) x) (arraysOf c))

@@ -101,7 +101,7 @@ answerOf n l k r =
 -- taking the record r of kind k: its item is stored where it is taken, and else nothing changes
 unfoldable pub takenAs : Case → Kind → Record → Result
 takenAs c k r =
-    let a = answerOf (c .count) (c .loops) k r in
+    let a = answerOf (c .count) (c .derived .loops) k r in
     record { case = cond (isTaken a) (with c k (itemOf k (r .fields))) c; answer = a }
 
 -- taking a record by its head: 11 to 13, or its kind

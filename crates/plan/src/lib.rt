@@ -36,10 +36,15 @@ pub struct Loops {
     pub endless: bool,
 }
 
-// A case: the items of each kind, how many there are, and the loops so far.
+// What follows from the items of a case and is kept beside them.
+pub struct Derived {
+    pub loops: Loops,
+}
+
+// A case: the items of each kind, how many there are, and what follows from them.
 pub struct Case {
     pub count: Counts,
-    pub loops: Loops,
+    pub derived: Derived,
     pub states: [State; Case::STATES],
     pub guards: [Guard; Case::GUARDS],
     pub moves: [Move; Case::MOVES],
@@ -326,9 +331,11 @@ impl Case {
             sentences: 0,
             places: 0,
         };
-        let loops = Loops {
-            end: PlaceNo(0),
-            endless: false,
+        let derived = Derived {
+            loops: Loops {
+                end: PlaceNo(0),
+                endless: false,
+            },
         };
         let states = [State { propositions: 0 }; Case::STATES];
         let guards = [no_guard(); Case::GUARDS];
@@ -337,7 +344,7 @@ impl Case {
         let places = [no_place(); Case::PLACES];
         Case {
             count: count,
-            loops: loops,
+            derived: derived,
             states: states,
             guards: guards,
             moves: moves,
@@ -363,7 +370,8 @@ impl Case {
                 };
             };
             let row = Record::read(&src[at..e]);
-            let answer = answer_of(self.count, self.loops, kind, row);
+            let loops = self.derived.loops;
+            let answer = answer_of(self.count, loops, kind, row);
             if is_taken(answer) {
                 match kind {
                     Kind::State => {
@@ -392,7 +400,10 @@ impl Case {
                         self.places[n] = place;
                         self.count.places = n + 1;
                         let mark = place.mark;
-                        self.loops = self.loops.after(n, mark);
+                        let derived = Derived {
+                            loops: loops.after(n, mark),
+                        };
+                        self.derived = derived;
                     }
                 }
             } else {

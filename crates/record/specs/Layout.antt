@@ -22,6 +22,10 @@ fields = 8
 abbrev pub recordLength : ℕ
 recordLength = 1 + fields * width + 1
 
+-- the last byte of a record
+abbrev pub lineFeed : ℕ
+lineFeed = 10
+
 -- the bytes of field f of a record, counted from 1
 abbrev pub bytesAt : List ℕ → ℕ → List ℕ
 bytesAt bs zero = []

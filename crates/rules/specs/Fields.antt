@@ -12,7 +12,7 @@ use lib.Signed.{ltZ, leZ}
 use lib.ListN.{length, getD, take, drop, replicate, List·getD-eq-default}
 use lib.Seq.{getD-drop}
 use Rattle.integer.specs.Order.{zarith}
-use Rattle.integer.specs.Tests.{neither}
+use Rattle.integer.specs.Tests.{neither, tells-false}
 use Rattle.integer.specs.Tab.{tab, tab-again}
 use Rattle.record.specs.declared.Content.{Content}
 use Rattle.record.specs.declared.Content.the-variants.{Blank, Number, Bad}
@@ -28,6 +28,7 @@ use Rattle.kinds.specs.Table as table
 use Rattle.kinds.specs.Table.{counters, natural, isNumber, rangeOf, neededIf, inFilled, shapeOf, ruleAt}
 use Rattle.faults.specs.Faults.{misspelled, missing, extra, outside, beyond}
 use Rattle.items.specs.Items.{itemOf, rowOf, byteOf, integerOf, shortOf, perCounter, refOf, termOf, markOf, stateOf, guardOf, moveOf, formOf, sentenceOf, placeOf, integer, number, blank, reference, termFields, markFields}
+use Rattle.rules.specs.Tells.{tells-bad, tells-missing, tells-extra, tells-outside}
 use Rattle.rules.specs.Sound.{shape, Fit}
 
 -- ---- ranges: a number of a range is in every wider one
@@ -44,14 +45,20 @@ wider s l h z w e =
 -- ---- a field by its rule
 
 -- a field that says c meets rule u
-record Meets (u : Rule) (c : Content) : Type 0 where
-  spelled : misspelled c ≡ false
-  full : missing u c ≡ false
-  bare : extra u c ≡ false
-  ranged : outside u c ≡ false
+pub record Meets (u : Rule) (c : Content) : Type 0 where
+  pub spelled : misspelled c ≡ false
+  pub full : missing u c ≡ false
+  pub bare : extra u c ≡ false
+  pub ranged : outside u c ≡ false
 
-met : {k : Kind} {r : List Field} → Fit k r → (j : ℕ) → Meets (ruleAt (shape k r) j) (at r j)
-met f j = record { spelled = f .spelled j; full = f .full j; bare = f .bare j; ranged = f .ranged j }
+pub met : {k : Kind} {r : List Field} → Fit k r → (j : ℕ) → Meets (ruleAt (shape k r) j) (at r j)
+met {k} {r} f j =
+    record {
+      spelled = tells-false _ (tells-bad r j) (f .spelled j);
+      full = tells-false _ (tells-missing k r j) (f .full j);
+      bare = tells-false _ (tells-extra k r j) (f .bare j);
+      ranged = tells-false _ (tells-outside k r j) (f .ranged j);
+    }
 
 abbrev field : Content → Field
 field c = record { content = c }
@@ -229,7 +236,7 @@ module _ (g : ℕ → Content) where
 
   sentence-again : (c : Content) → Again kind.Sentence (row c)
   unfolding ruleAt shapeOf rowOf sentenceOf formOf
-  sentence-again Blank f = absurd (true≢false (f .full 1))
+  sentence-again Blank f = absurd (true≢false (met f 1 .full))
   sentence-again (Number (pos zero)) f = λ i. number 0 ∷ rest-again f 1 (lit≤ tt) i
   sentence-again (Number (pos (suc zero))) f = part-again sort.Proposition (refl, refl) 1 f (met f 2) (lit≤ tt)
   sentence-again (Number (pos (suc (suc zero)))) f = part-again (sort.Reference kind.Guard) (refl, refl) 2 f (met f 2) (lit≤ tt)
@@ -253,8 +260,8 @@ module _ (g : ℕ → Content) where
   sentence-again (Number (pos (suc (suc (suc (suc (suc (suc (suc n))))))))) f =
       let h = natural-again sort.Form 6 (refl, refl) _ (met f 1) in
       absurd (omega (arith, h .1))
-  sentence-again (Number (negsuc n)) f = absurd (true≢false (f .ranged 1))
-  sentence-again Bad f = absurd (true≢false (f .spelled 1))
+  sentence-again (Number (negsuc n)) f = absurd (true≢false (met f 1 .ranged))
+  sentence-again Bad f = absurd (true≢false (met f 1 .spelled))
 
   again : (k : Kind) (c : Content) → Again k (row c)
   again kind.State = state-again

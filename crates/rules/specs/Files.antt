@@ -7,10 +7,9 @@ use lib.ListN.{length, getD}
 use Rattle.record.specs.declared.Field.{Field}
 use Rattle.record.specs.Layout.{recordOf}
 use Rattle.kinds.specs.declared.Kind.{Kind}
-use Rattle.kinds.specs.declared.Kind.the-variants as kind
 use Rattle.kinds.specs.Kinds.{letterOf}
-use Rattle.items.specs.Items.{stateOf, guardOf, moveOf, sentenceOf, placeOf}
-use Rattle.plan.specs.Cases.{Items}
+use Rattle.items.specs.Items.{itemOf}
+use Rattle.plan.specs.Cases.{Items, itemsBy}
 use Rattle.plan.specs.Taking.{cut}
 
 -- the rows of fields of the records of a kind, in order
@@ -20,14 +19,7 @@ rowsOf k (b ∷ bs) = cond (eqb (getD b 0 0) (letterOf k)) (recordOf b .fields �
 
 -- the case that records spell
 abbrev pub spelledBy : List (List ℕ) → Items
-spelledBy rs =
-    record {
-      states = map stateOf (rowsOf kind.State rs);
-      guards = map guardOf (rowsOf kind.Guard rs);
-      moves = map moveOf (rowsOf kind.Move rs);
-      sentences = map sentenceOf (rowsOf kind.Sentence rs);
-      places = map placeOf (rowsOf kind.Place rs);
-    }
+spelledBy rs = itemsBy (λ k. map (itemOf k) (rowsOf k rs))
 
 -- the case that a file spells
 abbrev pub spelled : List ℕ → Items

@@ -6,29 +6,32 @@ use mathlib.Core.Bool.{Bool, true, cond, false≢true}
 use Prim.Native.Nat.{ℕ, zero, suc, _-_, _≤_, _<_}
 use native.Mathlib.Nat.{le-refl}
 use native.Mathlib.Omega.{arith}
-use lib.Dec.{eqb, leb, ltb, lit≤, eqb·suc-zero}
+use lib.Dec.{leb, ltb, lit≤}
 use lib.ListN.{length, getD}
 use borrow.Author.Tests.{ltb-true, lt-ltb}
 use Rattle.integer.specs.Lowest.{lowest}
 use Rattle.integer.specs.Tests.{Tells, cond-by, tells-lt, tells-le, tells-and, tells-or}
-use Rattle.record.specs.Layout.{recordLength, recordOf}
+use Rattle.record.specs.Layout.{recordLength, lineFeed, recordOf}
 use Rattle.kinds.specs.declared.Kind.{Kind}
 use Rattle.kinds.specs.declared.Kind.the-variants.{State, Guard, Move, Sentence, Place}
 use Rattle.kinds.specs.declared.Shape.{Shape}
 use Rattle.kinds.specs.Kinds.{rankOf, countOf}
-use Rattle.kinds.specs.Table.{shapeOf, ruleAt, natural, isNumber, isBlank}
+use Rattle.kinds.specs.Table.{shapeOf, ruleAt, natural, isNumber}
+use Rattle.faults.specs.Faults.{outside}
 use Rattle.faults.specs.declared.Fault.the-variants as fault
 use Rattle.faults.specs.declared.Answer.{Answer}
 use Rattle.faults.specs.declared.Answer.the-variants.{Taken, NotARecord, NoLineFeed, NoSuchKind, Misspelled, Misfilled, OutOfRange, OutOfOrder, NoRoom, NotThere, Misplaced, WrongWayIn}
 use Rattle.faults.specs.Answers.{numberOf, fieldOf, testOrder, turnOf, in-order}
-use Rattle.faults.specs.Input.{lineFeed, wrongForm, rangeAnswer, extraAnswer, missingAnswer, formAnswer, fieldsAnswer}
+use Rattle.faults.specs.Input.{wrongForm, rangeAnswer, extraAnswer, missingAnswer, formAnswer, fieldsAnswer}
 use Rattle.plan.specs.declared.Loops.{Loops}
+use Rattle.plan.specs.declared.Derived.{Derived}
 use Rattle.plan.specs.declared.Case.{Case}
-use Rattle.plan.specs.Cases.{Items, listOf, itemsOf, roomOf, noLoops}
+use Rattle.plan.specs.Cases.{Items, listOf, countsOf, itemsOf, roomOf, noLoops, loopsFrom}
 use Rattle.plan.specs.Taking.{isClosed, isOpen, isLong, wayAnswer, markAnswer, placeAnswer, layoutAnswer, thereAnswer, roomAnswer, lastRank, orderAnswer, isTaken, answerOf, takenAs, takenBy, takenOf}
-use Rattle.rules.specs.Rules.{IsA, contentAt, IsMissing, IsExtra, IsOutside, IsNotThere, HasForm, Lowest, countsOf, Closed, Open, Applies, IsFirst}
-use Rattle.rules.specs.Sound.{Sound, loopsFrom}
-use Rattle.rules.specs.Held.{counts-are}
+use Rattle.rules.specs.Rules.{IsA, fieldsOf, contentAt, ruleFor, IsMissing, IsExtra, IsOutside, IsNotThere, HasForm, Lowest, Closed, Open, Applies, IsFirst}
+use Rattle.rules.specs.Tells.{tells-blank, tells-number, tells-bad, tells-missing, tells-extra, tells-outside, tells-there, tells-form, tells-way}
+use Rattle.rules.specs.Sound.{Sound}
+use Rattle.rules.specs.Held.{counted-of, counts-are, derived}
 use Rattle.rules.specs.Loops.{closed-is, open-is}
 use Rattle.rules.specs.Letters.{one-kind, by-head}
 use Rattle.rules.specs.Stages.{Nowhere, no-lowest, numbered, Passed, Ends, renumbered, start, more, none, first, refuses, tested, fault-tested}
@@ -39,7 +42,7 @@ shaped k bs = shapeOf k (recordOf bs)
 
 -- ---- what the tests tell
 
-form-outside : (bs : List ℕ) (k : Kind) → wrongForm (shapeOf k (recordOf bs)) (recordOf bs) ≡ true → IsOutside k bs 1
+form-outside : (bs : List ℕ) (k : Kind) → wrongForm (shapeOf k (recordOf bs)) (recordOf bs) ≡ true → outside (ruleFor k (fieldsOf bs) 1) (contentAt bs 1) ≡ true
 unfolding shapeOf ruleAt
 form-outside bs State e = absurd (false≢true e)
 form-outside bs Guard e = absurd (false≢true e)
@@ -47,22 +50,16 @@ form-outside bs Move e = absurd (false≢true e)
 form-outside bs Sentence e = e
 form-outside bs Place e = absurd (false≢true e)
 
-form-lowest : (bs : List ℕ) (k : Kind) → IsOutside k bs 1 → Lowest (IsOutside k bs) 1
+form-lowest : (bs : List ℕ) (k : Kind) → wrongForm (shapeOf k (recordOf bs)) (recordOf bs) ≡ true → Lowest (IsOutside k (fieldsOf bs)) 1
 unfolding ruleAt
-form-lowest bs k h = record { holds = h; before = elim [ zero ↦ λ l w. false≢true w | suc g ↦ λ l w. omega arith ] }
-
-tells-way : (n : ℕ) (t u : Bool) → Tells (cond (eqb n 0) t u) (((n ≡ 0) × (t ≡ true)) ⊎ ((0 < n) × (u ≡ true)))
-tells-way zero t u = (λ e. inl (refl, e), ⊎-elim (λ h. h .1) (λ h. absurd (omega (arith, h .0))))
-tells-way (suc n) t u = rw (eqb·suc-zero n) (λ e. inr (omega arith, e), ⊎-elim (λ h. absurd (omega (arith, h .0))) (λ h. h .1))
+form-lowest bs k e =
+    let w = tells-outside k (fieldsOf bs) in
+    record {
+      holds = w 1 .0 (form-outside bs k e);
+      before = elim [ zero ↦ λ l h. false≢true (w 0 .1 h) | suc g ↦ λ l h. omega arith ];
+    }
 
 module _ (x : Items) where
-  count-length : (k : Kind) → countOf (countsOf x) k ≡ length (listOf k x)
-  count-length State = refl
-  count-length Guard = refl
-  count-length Move = refl
-  count-length Sentence = refl
-  count-length Place = refl
-
   -- items of a kind with a rank above m are held
   abbrev Above : ℕ → Type 0
   Above m = (j : Kind) × (m < rankOf j) × (0 < length (listOf j x))
@@ -93,7 +90,7 @@ module _ (x : Items) where
       (λ e. last-held m (ltb-true m _ e), λ h. lt-ltb m _ (omega (arith, h .1, held-last (h .0) (h .2))))
 
   tells-room : (k : Kind) → Tells (leb (roomOf k) (countOf (countsOf x) k)) (roomOf k ≤ length (listOf k x))
-  tells-room k = rw (count-length k) (tells-le (roomOf k) (length (listOf k x)))
+  tells-room k = rw (counted-of x k) (tells-le (roomOf k) (length (listOf k x)))
 
 -- ---- the results that come from the input, 14 to 16, of a record of kind k
 
@@ -103,28 +100,28 @@ of-kind bs k is P j a = subst P (one-kind (getD bs 0 0) j k a is)
 
 -- field f is the lowest that is needed and blank, or else the lowest that is filled and must be blank
 abbrev WrongFill : List ℕ → Kind → ℕ → Type 0
-WrongFill bs j f = Lowest (IsMissing j bs) f ⊎ (Nowhere (IsMissing j bs) × Lowest (IsExtra j bs) f)
+WrongFill bs j f = Lowest (IsMissing j (fieldsOf bs)) f ⊎ (Nowhere (IsMissing j (fieldsOf bs)) × Lowest (IsExtra j (fieldsOf bs)) f)
 
 module _ (x : Items) (bs : List ℕ) (k : Kind) (is : IsA k bs) where
   range-ends : Passed x bs 16 → Ends x bs 21 (rangeAnswer (shaped k bs) (recordOf bs))
   unfolding rangeAnswer lowest
   range-ends p =
-      fault-tested x bs 21 fault.OutOfRange (shaped k bs) OutOfRange
+      fault-tested x bs 21 fault.OutOfRange (shaped k bs) OutOfRange (tells-outside k (fieldsOf bs))
       (λ g l. first x bs (OutOfRange g) p (k, is, l))
-      (λ none. inl (refl, more x bs 16 21 refl (λ f h. no-lowest none (of-kind bs k is (λ j. Lowest (IsOutside j bs) f) (h .0) (h .1) (h .2))) p))
+      (λ none. inl (refl, more x bs 16 21 refl (λ f h. no-lowest none (of-kind bs k is (λ j. Lowest (IsOutside j (fieldsOf bs)) f) (h .0) (h .1) (h .2))) p))
 
-  extra-ends : HasForm k bs → Nowhere (IsMissing k bs) → Passed x bs 15 → Ends x bs 21 (extraAnswer (shaped k bs) (recordOf bs))
+  extra-ends : HasForm k (fieldsOf bs) → Nowhere (IsMissing k (fieldsOf bs)) → Passed x bs 15 → Ends x bs 21 (extraAnswer (shaped k bs) (recordOf bs))
   unfolding extraAnswer lowest
   extra-ends form full p =
-      fault-tested x bs 21 fault.Extra (shaped k bs) Misfilled
+      fault-tested x bs 21 fault.Extra (shaped k bs) Misfilled (tells-extra k (fieldsOf bs))
       (λ g l. first x bs (Misfilled g) p (k, is, form, inr (full, l)))
       (λ none. range-ends (more x bs 15 16 refl (λ f h.
       ⊎-elim (no-lowest full) (λ l. no-lowest none (l .1)) (of-kind bs k is (λ j. WrongFill bs j f) (h .0) (h .1) (h .3))) p))
 
-  missing-ends : HasForm k bs → Passed x bs 15 → Ends x bs 21 (missingAnswer (shaped k bs) (recordOf bs))
+  missing-ends : HasForm k (fieldsOf bs) → Passed x bs 15 → Ends x bs 21 (missingAnswer (shaped k bs) (recordOf bs))
   unfolding missingAnswer
   missing-ends form p =
-      fault-tested x bs 21 fault.Missing (shaped k bs) Misfilled
+      fault-tested x bs 21 fault.Missing (shaped k bs) Misfilled (tells-missing k (fieldsOf bs))
       (λ g l. first x bs (Misfilled g) p (k, is, form, inl l))
       (λ full. extra-ends form full p)
 
@@ -133,14 +130,14 @@ module _ (x : Items) (bs : List ℕ) (k : Kind) (is : IsA k bs) where
   form-ends p =
       cond-by (Ends x bs 21) (wrongForm (shaped k bs) (recordOf bs)) {x = OutOfRange 1} {y = missingAnswer (shaped k bs) (recordOf bs)}
       (λ e. inr (first x bs (OutOfRange 1)
-      (more x bs 15 16 refl (λ f h. false≢true (sym (of-kind bs k is (λ j. HasForm j bs) (h .0) (h .1) (h .2)) ∙ e)) p)
-      (k, is, form-lowest bs k (form-outside bs k e))))
-      (λ e. missing-ends e p)
+      (more x bs 15 16 refl (λ f h. false≢true (sym (tells-form k (recordOf bs) .1 (of-kind bs k is (λ j. HasForm j (fieldsOf bs)) (h .0) (h .1) (h .2))) ∙ e)) p)
+      (k, is, form-lowest bs k e)))
+      (λ e. missing-ends (tells-form k (recordOf bs) .0 e) p)
 
   fields-end : Passed x bs 14 → Ends x bs 21 (fieldsAnswer (shaped k bs) (recordOf bs))
   unfolding fieldsAnswer lowest
   fields-end p =
-      fault-tested x bs 21 fault.Misspelled (shaped k bs) Misspelled
+      fault-tested x bs 21 fault.Misspelled (shaped k bs) Misspelled (tells-bad (fieldsOf bs))
       (λ g l. first x bs (Misspelled g) p l)
       (λ none. form-ends (more x bs 14 15 refl (λ f l. no-lowest none l) p))
 
@@ -152,7 +149,7 @@ module _ (x : Items) (bs : List ℕ) (l : Loops)
   way-ends : IsA Place bs → Passed x bs 26 → Ends x bs 0 (wayAnswer (length (x .places)) (recordOf bs .fields))
   unfolding wayAnswer lowest
   way-ends is p =
-      tested x bs 0 _ WrongWayIn (tells-way (length (x .places)) (isNumber (contentAt bs 2)) (isBlank (contentAt bs 2)))
+      tested x bs 0 _ WrongWayIn (tells-way (length (x .places)) _ _ (tells-number (contentAt bs 2)) (tells-blank (contentAt bs 2)))
       (λ w. first x bs WrongWayIn p (is, w))
       (λ right. inl (refl, more x bs 26 0 refl (λ f h. right (h .1)) p))
 
@@ -161,7 +158,7 @@ module _ (x : Items) (bs : List ℕ) (l : Loops)
   mark-ends is still p =
       let t : Bool = isLong (length (x .places)) (natural (contentAt bs 4)) in
       tested x bs 0 _ (Misplaced 4)
-      (tells-and (isNumber (contentAt bs 4)) _ (λ e. e, λ e. e) (tells-or (isOpen l (length (x .places))) t opened (tells-lt _ _)))
+      (tells-and (isNumber (contentAt bs 4)) _ (tells-number (contentAt bs 4)) (tells-or (isOpen l (length (x .places))) t opened (tells-lt _ _)))
       (λ w. first x bs (Misplaced 4) p (is, inr (still, w, refl)))
       (λ right. way-ends is (more x bs 25 26 refl (λ f h. ⊎-elim (λ c. still (c .0)) (λ m. right (m .1)) (h .1)) p))
 
@@ -187,10 +184,10 @@ module _ (x : Items) (bs : List ℕ) (l : Loops)
     there-ends : Passed x bs 23 → Ends x bs 0 (thereAnswer (countsOf x) l (shaped k bs) (recordOf bs))
     unfolding thereAnswer shapeOf lowest
     there-ends p =
-        fault-tested x bs 0 (fault.NotThere (countsOf x)) (shaped k bs) NotThere
+        fault-tested x bs 0 (fault.NotThere (countsOf x)) (shaped k bs) NotThere (λ g. tells-there k (fieldsOf bs) g (countsOf x))
         (λ g w. first x bs (NotThere g) p (k, is, w))
         (λ none. layout-ends k is
-        (more x bs 23 25 refl (λ f h. no-lowest none (of-kind bs k is (λ j. Lowest (IsNotThere x j bs) f) (h .0) (h .1) (h .2))) p))
+        (more x bs 23 25 refl (λ f h. no-lowest none (of-kind bs k is (λ j. Lowest (IsNotThere (countsOf x) j (fieldsOf bs)) f) (h .0) (h .1) (h .2))) p))
 
     room-ends : Passed x bs 22 → Ends x bs 0 (roomAnswer (countsOf x) l (shaped k bs) (recordOf bs))
     unfolding roomAnswer shapeOf lowest
@@ -225,7 +222,7 @@ answers-first c bs s =
     (λ w e. inr (first x bs NoLineFeed (whole w) e))
     (λ w d e. inr (first x bs NoSuchKind (ended w d) e))
     (λ w d k is.
-    subst₂ (λ n l. Ends x bs 0 (answerOf n l k (recordOf bs))) (sym (counts-are c s)) (sym (s .derived))
+    subst₂ (λ n l. Ends x bs 0 (answerOf n l k (recordOf bs))) (sym (counts-are c s)) (sym (ap (λ (d : Derived). d .loops) (derived s)))
     (kind-ends x bs (loopsFrom noLoops 0 (x .places)) (closed-is x (s .loops)) (open-is x (s .loops)) k is
     (more x bs 13 14 refl (λ f h. h k is) (ended w d)))))
   where
@@ -262,11 +259,11 @@ field-one x bs (Misfilled f) g v w =
     ap Misfilled (both-ways (lowest-one _ f g) (λ l m. absurd (no-lowest (m .0) l)) (λ l m. absurd (no-lowest (l .0) m)) (λ l m. lowest-one _ f g (l .1) (m .1))
     (v .3) (of-kind bs (v .0) (v .1) (λ j. WrongFill bs j g) (w .0) (w .1) (w .3)))
 field-one x bs (OutOfRange f) g v w =
-    ap OutOfRange (lowest-one _ f g (v .2) (of-kind bs (v .0) (v .1) (λ j. Lowest (IsOutside j bs) g) (w .0) (w .1) (w .2)))
+    ap OutOfRange (lowest-one _ f g (v .2) (of-kind bs (v .0) (v .1) (λ j. Lowest (IsOutside j (fieldsOf bs)) g) (w .0) (w .1) (w .2)))
 field-one x bs OutOfOrder g v w = refl
 field-one x bs NoRoom g v w = refl
 field-one x bs (NotThere f) g v w =
-    ap NotThere (lowest-one _ f g (v .2) (of-kind bs (v .0) (v .1) (λ j. Lowest (IsNotThere x j bs) g) (w .0) (w .1) (w .2)))
+    ap NotThere (lowest-one _ f g (v .2) (of-kind bs (v .0) (v .1) (λ j. Lowest (IsNotThere (countsOf x) j (fieldsOf bs)) g) (w .0) (w .1) (w .2)))
 field-one x bs (Misplaced f) g v w =
     ap Misplaced (both-ways (λ c d. c .1 ∙ sym (d .1)) (λ c d. absurd (d .0 (c .0))) (λ c d. absurd (c .0 (d .0))) (λ c d. c .2 ∙ sym (d .2)) (v .1) (w .1))
 field-one x bs WrongWayIn g v w = refl

@@ -1,24 +1,22 @@
--- What a case holds: its lists by its arrays and counts, and what one item more does to them, over the kind.
+-- A case is its items: what one item more does to them, over the kind.
 -- Nothing above this speaks of the room that is left. Assumes nothing.
-use mathlib.Core.Path.{_≡_, refl, _∙_, sym, ap, subst, subst₂}
-use mathlib.Core.Logic.{_⊎_, inl, inr, ⊎-elim}
+use mathlib.Core.Path.{_≡_, refl, _∙_, sym, ap, ap₂, subst}
 use mathlib.Core.List.{List, [], _∷_, _++_}
 use mathlib.Core.Bool.{Bool, true, false, true≢false, cond, _&&_, _||_}
-use Prim.Native.Nat.{ℕ, suc, _+_, _-_, _≤_, _<_}
-use native.Mathlib.Numerals.{add-one}
+use Prim.Native.Nat.{ℕ, suc, _+_, _-_, _<_}
 use native.Mathlib.Omega.{arith}
 use lib.Dec.{eqb, leb, ltb}
-use lib.ListN.{length, take, set, replicate, getD, length-set}
-use lib.Seq.{length-take-le, take-suc-set, set-at, append-snoc}
-use borrow.Author.Tests.{leb-false}
-use Rattle.integer.specs.Tests.{cond-by}
+use lib.ListN.{length, take, set, replicate, getD, length-append, length-replicate}
+use lib.Seq.{take-append-seam, set-at, append-snoc}
+use borrow.Author.Tests.{leb-false, eqb-true, eq-eqb}
+use Rattle.integer.specs.Tests.{cond-by, tells-not}
 use Rattle.record.specs.declared.Field.{Field}
 use Rattle.record.specs.declared.Record.{Record}
 use Rattle.record.specs.Layout.{fields, at, recordOf}
 use Rattle.kinds.specs.declared.Kind.{Kind}
 use Rattle.kinds.specs.declared.Kind.the-variants.{State, Guard, Move, Sentence, Place}
 use Rattle.kinds.specs.declared.Counts.{Counts}
-use Rattle.kinds.specs.Kinds.{countOf, letterOf, rankOf}
+use Rattle.kinds.specs.Kinds.{countOf, countsBy, same, letterOf, rankOf}
 use Rattle.kinds.specs.Table.{shapeOf, natural, isNumber, isBlank}
 use Rattle.faults.specs.declared.Fault.{Fault}
 use Rattle.faults.specs.declared.Fault.the-variants as fault
@@ -31,199 +29,201 @@ use Rattle.faults.specs.Input.{wrongForm, rangeAnswer, extraAnswer, missingAnsw
 use Rattle.items.specs.Items.{Item, itemOf}
 use Rattle.plan.specs.declared.Case.{Case}
 use Rattle.plan.specs.declared.Loops.{Loops}
-use Rattle.plan.specs.Cases.{listOf, itemsOf, roomOf, noItem, with, emptyCase}
+use Rattle.plan.specs.Cases.{Items, listOf, itemsBy, countsOf, changed, added, arraysOf, filled, caseBy, caseOf, itemsOf, roomOf, noItem, noLoops, loopsAfter, loopsFrom, derivedOf, derivedAfter, oneMore, with, emptyCase}
 use Rattle.plan.specs.Taking.{isTaken, takenOf, takenBy, takenAs, answerOf, lastRank, orderAnswer, roomAnswer, thereAnswer, layoutAnswer, placeAnswer, markAnswer, wayAnswer, isClosed, isOpen, isLong}
-use Rattle.rules.specs.Letters.{by-head}
-use Rattle.rules.specs.Rules.{IsA, countsOf}
-use Rattle.rules.specs.Sound.{Sound, Fit, There, arrayOf}
+use Rattle.rules.specs.Letters.{one-kind, by-head}
+use Rattle.rules.specs.Rules.{IsA}
+use Rattle.rules.specs.Sound.{Sound, Fit, There}
+use Rattle.rules.specs.Loops.{loops-snoc}
 use Rattle.rules.specs.Stages.{fault-none}
+use Rattle.rules.specs.Tells.{tells-bad, tells-missing, tells-extra, tells-outside, tells-there}
 
--- the part of Sound that is about arrays and counts
-pub record Kept (c : Case) : Type 0 where
-  pub long : (k : Kind) → length (arrayOf k c) ≡ roomOf k
-  pub room : (k : Kind) → countOf (c .count) k ≤ roomOf k
+-- ---- kind by kind
 
-pub sound-is-kept : {c : Case} → Sound c → Kept c
-sound-is-kept s = record { long = s .long; room = s .room }
+pub list-by : (f : (k : Kind) → List (Item k)) (k : Kind) → listOf k (itemsBy f) ≡ f k
+list-by f State = refl
+list-by f Guard = refl
+list-by f Move = refl
+list-by f Sentence = refl
+list-by f Place = refl
 
--- what is left of the room of a kind is as in the empty case
-abbrev pub Padded : Case → Kind → Type 0
-Padded c k = arrayOf k c ≡ listOf k (itemsOf c) ++ replicate (roomOf k - countOf (c .count) k) (noItem k)
+pub count-by : (f : Kind → ℕ) (k : Kind) → countOf (countsBy f) k ≡ f k
+count-by f State = refl
+count-by f Guard = refl
+count-by f Move = refl
+count-by f Sentence = refl
+count-by f Place = refl
 
--- ---- an array with one item more
+-- items, and counts, that are the same kind by kind are the same
+pub items-same : {x y : Items} → ((k : Kind) → listOf k x ≡ listOf k y) → x ≡ y
+items-same f = λ i. itemsBy (λ k. f k i)
 
--- an array of r elements, the first n held and the others d
-abbrev Pad : {A : Type 0} → A → ℕ → List A → ℕ → Type 0
-Pad d r xs n = xs ≡ take n xs ++ replicate (r - n) d
-
-module _ {A : Type 0} (xs : List A) (n : ℕ) (x : A) where
-  take-more : n < length xs → take (n + 1) (set xs n x) ≡ take n xs ++ (x ∷ [])
-  take-more h = rw add-one (take-suc-set xs n x h)
-
-  pad-more : (d : A) (r : ℕ) → length xs ≡ r → n < r → Pad d r xs n → Pad d r (set xs n x) (n + 1)
-  pad-more d r l h p =
-      let m : ℕ = r - (n + 1) in
-      let e : r - n ≡ suc m = omega arith in
-      let q : xs ≡ take n xs ++ (d ∷ replicate m d) = p ∙ ap (λ k. take n xs ++ replicate k d) e in
-      let w : set xs n x ≡ take n xs ++ (x ∷ replicate m d) = ap (λ ys. set ys n x) q ∙ set-at (take n xs) d (replicate m d) x n (length-take-le n xs (omega arith)) in
-      w ∙ sym (ap (λ ys. ys ++ replicate m d) (take-more (omega arith)) ∙ append-snoc (take n xs) x (replicate m d))
-
--- ---- the kinds
-
--- j is another kind than k: another letter, and one item more of kind k leaves its items as they were
-pub record Other (j k : Kind) : Type 0 where
-  pub letter : eqb (letterOf k) (letterOf j) ≡ false
-  pub array : (c : Case) (x : Item k) → arrayOf j (with c k x) ≡ arrayOf j c
-  pub count : (c : Case) (x : Item k) → countOf (with c k x .count) j ≡ countOf (c .count) j
-
-same-or-other : (j k : Kind) →
-    (j ≡ k)
-    ⊎ ((eqb (letterOf k) (letterOf j) ≡ false)
-    × ((c : Case) (x : Item k) → arrayOf j (with c k x) ≡ arrayOf j c)
-    × ((c : Case) (x : Item k) → countOf (with c k x .count) j ≡ countOf (c .count) j))
-same-or-other State State = inl refl
-same-or-other State Guard = inr (refl, λ c x. refl, λ c x. refl)
-same-or-other State Move = inr (refl, λ c x. refl, λ c x. refl)
-same-or-other State Sentence = inr (refl, λ c x. refl, λ c x. refl)
-same-or-other State Place = inr (refl, λ c x. refl, λ c x. refl)
-same-or-other Guard State = inr (refl, λ c x. refl, λ c x. refl)
-same-or-other Guard Guard = inl refl
-same-or-other Guard Move = inr (refl, λ c x. refl, λ c x. refl)
-same-or-other Guard Sentence = inr (refl, λ c x. refl, λ c x. refl)
-same-or-other Guard Place = inr (refl, λ c x. refl, λ c x. refl)
-same-or-other Move State = inr (refl, λ c x. refl, λ c x. refl)
-same-or-other Move Guard = inr (refl, λ c x. refl, λ c x. refl)
-same-or-other Move Move = inl refl
-same-or-other Move Sentence = inr (refl, λ c x. refl, λ c x. refl)
-same-or-other Move Place = inr (refl, λ c x. refl, λ c x. refl)
-same-or-other Sentence State = inr (refl, λ c x. refl, λ c x. refl)
-same-or-other Sentence Guard = inr (refl, λ c x. refl, λ c x. refl)
-same-or-other Sentence Move = inr (refl, λ c x. refl, λ c x. refl)
-same-or-other Sentence Sentence = inl refl
-same-or-other Sentence Place = inr (refl, λ c x. refl, λ c x. refl)
-same-or-other Place State = inr (refl, λ c x. refl, λ c x. refl)
-same-or-other Place Guard = inr (refl, λ c x. refl, λ c x. refl)
-same-or-other Place Move = inr (refl, λ c x. refl, λ c x. refl)
-same-or-other Place Sentence = inr (refl, λ c x. refl, λ c x. refl)
-same-or-other Place Place = inl refl
+counts-same : {n m : Counts} → ((k : Kind) → countOf n k ≡ countOf m k) → n ≡ m
+counts-same f = λ i. countsBy (λ k. f k i)
 
 -- what is true of kind k and of every other kind is true of all
-pub by-kind : (P : Kind → Type 0) (k : Kind) → P k → ((j : Kind) → Other j k → P j) → (j : Kind) → P j
+pub by-kind : (P : Kind → Type 0) (k : Kind) → P k → ((j : Kind) → same k j ≡ false → P j) → (j : Kind) → P j
 by-kind P k p f j =
-    ⊎-elim (λ e. subst P (sym e) p) (λ o. f j (record { letter = o .0; array = o .1; count = o .2 })) (same-or-other j k)
+    cond-by (λ (z : ℕ). P j) (same k j) {x = 0} {y = 0} (λ e. subst P (one-kind (letterOf k) k j refl (eqb-true (letterOf k) (letterOf j) e)) p) (f j)
 
--- the items of a kind are the first of its array
-pub list-is : (k : Kind) (c : Case) → listOf k (itemsOf c) ≡ take (countOf (c .count) k) (arrayOf k c)
-list-is State c = refl
-list-is Guard c = refl
-list-is Move c = refl
-list-is Sentence c = refl
-list-is Place c = refl
+-- where the items of kind k are changed, these are, and the others are not
+changed-same : (k : Kind) (f : List (Item k) → List (Item k)) (x : Items) → listOf k (changed k f x) ≡ f (listOf k x)
+changed-same State f x = refl
+changed-same Guard f x = refl
+changed-same Move f x = refl
+changed-same Sentence f x = refl
+changed-same Place f x = refl
 
-array-with : (c : Case) (k : Kind) (x : Item k) → arrayOf k (with c k x) ≡ set (arrayOf k c) (countOf (c .count) k) x
-array-with c State x = refl
-array-with c Guard x = refl
-array-with c Move x = refl
-array-with c Sentence x = refl
-array-with c Place x = refl
+changed-other : (k : Kind) (f : List (Item k) → List (Item k)) (x : Items) (j : Kind) → same k j ≡ false → listOf j (changed k f x) ≡ listOf j x
+changed-other State f x = elim [ State ↦ λ e. absurd (true≢false e) | Guard ↦ λ e. refl | Move ↦ λ e. refl | Sentence ↦ λ e. refl | Place ↦ λ e. refl ]
+changed-other Guard f x = elim [ State ↦ λ e. refl | Guard ↦ λ e. absurd (true≢false e) | Move ↦ λ e. refl | Sentence ↦ λ e. refl | Place ↦ λ e. refl ]
+changed-other Move f x = elim [ State ↦ λ e. refl | Guard ↦ λ e. refl | Move ↦ λ e. absurd (true≢false e) | Sentence ↦ λ e. refl | Place ↦ λ e. refl ]
+changed-other Sentence f x = elim [ State ↦ λ e. refl | Guard ↦ λ e. refl | Move ↦ λ e. refl | Sentence ↦ λ e. absurd (true≢false e) | Place ↦ λ e. refl ]
+changed-other Place f x = elim [ State ↦ λ e. refl | Guard ↦ λ e. refl | Move ↦ λ e. refl | Sentence ↦ λ e. refl | Place ↦ λ e. absurd (true≢false e) ]
 
-pub count-with : (c : Case) (k : Kind) (x : Item k) → countOf (with c k x .count) k ≡ countOf (c .count) k + 1
-count-with c State x = refl
-count-with c Guard x = refl
-count-with c Move x = refl
-count-with c Sentence x = refl
-count-with c Place x = refl
+module _ (n : Counts) (k : Kind) where
+  abbrev more : Kind → ℕ
+  more j = cond (same k j) (countOf n j + 1) (countOf n j)
 
--- ---- the counts
+  pub count-more : countOf (oneMore n k) k ≡ countOf n k + 1
+  count-more = count-by more k ∙ ap (λ t. cond t (countOf n k + 1) (countOf n k)) (eq-eqb (letterOf k) (letterOf k) refl)
+
+  pub count-other : (j : Kind) → same k j ≡ false → countOf (oneMore n k) j ≡ countOf n j
+  count-other j e = count-by more j ∙ ap (λ t. cond t (countOf n j + 1) (countOf n j)) e
+
+-- ---- the case that holds given items
+
+pub counted-of : (x : Items) (k : Kind) → countOf (countsOf x) k ≡ length (listOf k x)
+counted-of x = count-by (λ k. length (listOf k x))
+
+pub items-of : (x : Items) → itemsOf (caseOf x) ≡ x
+items-of x =
+    items-same (λ k.
+    list-by (λ j. take (countOf (countsOf x) j) (listOf j (itemsBy (filled x)))) k
+    ∙ ap₂ (λ n l. take n l) (counted-of x k) (list-by (filled x) k)
+    ∙ take-append-seam (listOf k x) (replicate (roomOf k - length (listOf k x)) (noItem k)))
+
+-- storing an item after those that are held
+set-filled : {A : Type 0} (l : List A) (r : ℕ) (d y : A) → length l < r →
+    set (l ++ replicate (r - length l) d) (length l) y ≡ (l ++ (y ∷ [])) ++ replicate (r - length (l ++ (y ∷ []))) d
+set-filled l r d y h =
+    let m : ℕ = r - (length l + 1) in
+    let e : r - length l ≡ suc m = omega arith in
+    let g : r - length (l ++ (y ∷ [])) ≡ m = omega (arith, length-append l (y ∷ [])) in
+    ap (λ k. set (l ++ replicate k d) (length l) y) e
+    ∙ set-at l d (replicate m d) y (length l) refl
+    ∙ sym (ap (λ k. (l ++ (y ∷ [])) ++ replicate k d) g ∙ append-snoc l y (replicate m d))
+
+derived-added : (x : Items) (k : Kind) (y : Item k) → derivedAfter (derivedOf x) (countsOf x) k y ≡ derivedOf (added x k y)
+derived-added x State y = refl
+derived-added x Guard y = refl
+derived-added x Move y = refl
+derived-added x Sentence y = refl
+derived-added x Place y =
+    let z : length (x .places) ≡ 0 + length (x .places) = omega arith in
+    let e : loopsAfter (loopsFrom noLoops 0 (x .places)) (length (x .places)) (y .mark) ≡ loopsFrom noLoops 0 (x .places ++ (y ∷ [])) =
+    ap (λ n. loopsAfter (loopsFrom noLoops 0 (x .places)) n (y .mark)) z ∙ sym (loops-snoc noLoops 0 (x .places) y) in
+    λ i. record { loops = e i }
+
+module _ (x : Items) (k : Kind) (y : Item k) where
+  pub added-same : listOf k (added x k y) ≡ listOf k x ++ (y ∷ [])
+  added-same = changed-same k (λ l. l ++ (y ∷ [])) x
+
+  pub added-other : (j : Kind) → same k j ≡ false → listOf j (added x k y) ≡ listOf j x
+  added-other = changed-other k (λ l. l ++ (y ∷ [])) x
+
+  counts-added : oneMore (countsOf x) k ≡ countsOf (added x k y)
+  counts-added =
+      counts-same (by-kind (λ j. countOf (oneMore (countsOf x) k) j ≡ countOf (countsOf (added x k y)) j) k
+      (count-more (countsOf x) k
+      ∙ ap (λ n. n + 1) (counted-of x k)
+      ∙ sym (counted-of (added x k y) k ∙ ap length added-same ∙ length-append (listOf k x) (y ∷ [])))
+      (λ j e. count-other (countsOf x) k j e ∙ counted-of x j ∙ sym (counted-of (added x k y) j ∙ ap length (added-other j e))))
+
+  arrays-added : length (listOf k x) < roomOf k →
+      changed k (λ xs. set xs (countOf (countsOf x) k) y) (itemsBy (filled x)) ≡ itemsBy (filled (added x k y))
+  arrays-added h =
+      let f : List (Item k) → List (Item k) = λ xs. set xs (countOf (countsOf x) k) y in
+      items-same (by-kind (λ j. listOf j (changed k f (itemsBy (filled x))) ≡ listOf j (itemsBy (filled (added x k y)))) k
+      (changed-same k f (itemsBy (filled x))
+      ∙ ap₂ (λ n l. set l n y) (counted-of x k) (list-by (filled x) k)
+      ∙ set-filled (listOf k x) (roomOf k) (noItem k) y h
+      ∙ sym (list-by (filled (added x k y)) k ∙ ap (λ l. l ++ replicate (roomOf k - length l) (noItem k)) added-same))
+      (λ j e.
+      changed-other k f (itemsBy (filled x)) j e
+      ∙ list-by (filled x) j
+      ∙ sym (list-by (filled (added x k y)) j ∙ ap (λ l. l ++ replicate (roomOf j - length l) (noItem j)) (added-other j e))))
+
+  with-is : length (listOf k x) < roomOf k → with (caseOf x) k y ≡ caseOf (added x k y)
+  with-is h = λ i. caseBy (counts-added i) (derived-added x k y i) (arrays-added h i)
+
+-- ---- a case that is its items
+
+abbrev pub Kept : Case → Type 0
+Kept c = c ≡ caseOf (itemsOf c)
+
+pub sound-is-kept : {c : Case} → Sound c → Kept c
+sound-is-kept s = s .same
 
 module _ (c : Case) (s : Kept c) where
-  pub kept-counted : (k : Kind) → length (listOf k (itemsOf c)) ≡ countOf (c .count) k
-  kept-counted k = ap length (list-is k c) ∙ length-take-le (countOf (c .count) k) (arrayOf k c) (rw (s .long k) (s .room k))
-
   pub kept-counts : c .count ≡ countsOf (itemsOf c)
-  kept-counts =
-      λ i. record {
-        states = sym (kept-counted State) i;
-        guards = sym (kept-counted Guard) i;
-        moves = sym (kept-counted Move) i;
-        sentences = sym (kept-counted Sentence) i;
-        places = sym (kept-counted Place) i;
-      }
+  kept-counts = ap (λ (d : Case). d .count) s
+
+  pub kept-counted : (k : Kind) → length (listOf k (itemsOf c)) ≡ countOf (c .count) k
+  kept-counted k = sym (ap (λ n. countOf n k) kept-counts ∙ counted-of (itemsOf c) k)
 
 pub counted : (c : Case) → Sound c → (k : Kind) → length (listOf k (itemsOf c)) ≡ countOf (c .count) k
-counted c s = kept-counted c (sound-is-kept s)
+counted c s = kept-counted c (s .same)
 
 pub counts-are : (c : Case) → Sound c → c .count ≡ countsOf (itemsOf c)
-counts-are c s = kept-counts c (sound-is-kept s)
+counts-are c s = kept-counts c (s .same)
+
+module _ {c : Case} (s : Sound c) where
+  -- what is kept beside the items follows from them
+  pub derived : c .derived ≡ derivedOf (itemsOf c)
+  derived = ap (λ (d : Case). d .derived) (s .same)
+
+  -- each array is the items, and empty ones up to the room
+  pub padded : (k : Kind) → listOf k (arraysOf c) ≡ filled (itemsOf c) k
+  padded k = ap (λ (d : Case). listOf k (arraysOf d)) (s .same) ∙ list-by (filled (itemsOf c)) k
+
+  pub long : (k : Kind) → length (listOf k (arraysOf c)) ≡ roomOf k
+  long k =
+      let l = listOf k (itemsOf c) in
+      ap length (padded k)
+      ∙ omega (arith, length-append l (replicate (roomOf k - length l) (noItem k)), length-replicate (roomOf k - length l) (noItem k), counted c s k, s .room k)
 
 -- ---- a case with one item more
 
-pub other-list : (c : Case) (j k : Kind) (x : Item k) → Other j k → listOf j (itemsOf (with c k x)) ≡ listOf j (itemsOf c)
-other-list c j k x o =
-    list-is j (with c k x)
-    ∙ ap (λ n. take n (arrayOf j (with c k x))) (o .count c x)
-    ∙ ap (take (countOf (c .count) j)) (o .array c x)
-    ∙ sym (list-is j c)
-
-pub other-kind : (c : Case) (j k : Kind) (x : Item k) → (j ≡ k → ⊥) → listOf j (itemsOf (with c k x)) ≡ listOf j (itemsOf c)
-other-kind c j k x h =
-    by-kind (λ i. (i ≡ k → ⊥) → listOf i (itemsOf (with c k x)) ≡ listOf i (itemsOf c)) k (λ d. absurd (d refl))
-    (λ i o d. other-list c i k x o) j h
-
--- what is true of the array and the count of kind k after it, and of those of every kind before, is true of all after it
-pub by-array : (Q : (j : Kind) → List (Item j) → ℕ → Type 0) (c : Case) (k : Kind) (x : Item k) →
-    Q k (set (arrayOf k c) (countOf (c .count) k) x) (countOf (c .count) k + 1) →
-    ((j : Kind) → Q j (arrayOf j c) (countOf (c .count) j)) →
-    (j : Kind) → Q j (arrayOf j (with c k x)) (countOf (with c k x .count) j)
-by-array Q c k x q f =
-    by-kind (λ j. Q j (arrayOf j (with c k x)) (countOf (with c k x .count) j)) k
-    (subst₂ (Q k) (sym (array-with c k x)) (sym (count-with c k x)) q)
-    (λ j o. subst₂ (Q j) (sym (o .array c x)) (sym (o .count c x)) (f j))
-
 module _ (c : Case) (k : Kind) (x : Item k) (s : Kept c) (h : countOf (c .count) k < roomOf k) where
-  pub same-kind : listOf k (itemsOf (with c k x)) ≡ listOf k (itemsOf c) ++ (x ∷ [])
-  same-kind =
-      list-is k (with c k x)
-      ∙ ap (λ n. take n (arrayOf k (with c k x))) (count-with c k x)
-      ∙ ap (take (countOf (c .count) k + 1)) (array-with c k x)
-      ∙ take-more (arrayOf k c) (countOf (c .count) k) x (rw (s .long k) h)
-      ∙ ap (λ l. l ++ (x ∷ [])) (sym (list-is k c))
+  with-added : with c k x ≡ caseOf (added (itemsOf c) k x)
+  with-added = ap (λ (d : Case). with d k x) s ∙ with-is (itemsOf c) k x (omega (arith, kept-counted c s k))
 
-  pub long-with : (j : Kind) → length (arrayOf j (with c k x)) ≡ roomOf j
-  long-with = by-array (λ j xs n. length xs ≡ roomOf j) c k x (length-set (arrayOf k c) (countOf (c .count) k) x ∙ s .long k) (s .long)
-
-  pub room-with : (j : Kind) → countOf (with c k x .count) j ≤ roomOf j
-  room-with = by-array (λ j xs n. n ≤ roomOf j) c k x (omega arith) (s .room)
+  pub items-with : itemsOf (with c k x) ≡ added (itemsOf c) k x
+  items-with = ap itemsOf with-added ∙ items-of (added (itemsOf c) k x)
 
   pub kept-with : Kept (with c k x)
-  kept-with = record { long = long-with; room = room-with }
+  kept-with = with-added ∙ ap caseOf (sym items-with)
 
-  pub padded-with : ((j : Kind) → Padded c j) → (j : Kind) → Padded (with c k x) j
-  padded-with p j =
-      subst (λ l. arrayOf j (with c k x) ≡ l ++ replicate (roomOf j - countOf (with c k x .count) j) (noItem j)) (sym (list-is j (with c k x)))
-      (by-array (λ i xs n. Pad (noItem i) (roomOf i) xs n) c k x
-      (pad-more (arrayOf k c) (countOf (c .count) k) x (noItem k) (roomOf k) (s .long k) h (pads k)) pads j)
-    where
-      pads : (i : Kind) → Pad (noItem i) (roomOf i) (arrayOf i c) (countOf (c .count) i)
-      pads i = subst (λ l. arrayOf i c ≡ l ++ replicate (roomOf i - countOf (c .count) i) (noItem i)) (list-is i c) (p i)
+  pub same-kind : listOf k (itemsOf (with c k x)) ≡ listOf k (itemsOf c) ++ (x ∷ [])
+  same-kind = ap (listOf k) items-with ∙ added-same (itemsOf c) k x
+
+  pub other-list : (j : Kind) → same k j ≡ false → listOf j (itemsOf (with c k x)) ≡ listOf j (itemsOf c)
+  other-list j e = ap (listOf j) items-with ∙ added-other (itemsOf c) k x j e
+
+  pub other-kind : (j : Kind) → (j ≡ k → ⊥) → listOf j (itemsOf (with c k x)) ≡ listOf j (itemsOf c)
+  other-kind =
+      by-kind (λ j. (j ≡ k → ⊥) → listOf j (itemsOf (with c k x)) ≡ listOf j (itemsOf c)) k (λ d. absurd (d refl)) (λ j e d. other-list j e)
 
 -- ---- the empty case
 
 pub empty-kept : Kept emptyCase
 unfolding emptyCase
-empty-kept =
-    record {
-      long = elim [ State ↦ refl | Guard ↦ refl | Move ↦ refl | Sentence ↦ refl | Place ↦ refl ];
-      room = elim [ State ↦ omega arith | Guard ↦ omega arith | Move ↦ omega arith | Sentence ↦ omega arith | Place ↦ omega arith ];
-    }
+empty-kept = ap caseOf (sym (items-of (itemsBy (λ k. []))))
 
 pub empty-list : (k : Kind) → listOf k (itemsOf emptyCase) ≡ []
 unfolding emptyCase
-empty-list State = refl
-empty-list Guard = refl
-empty-list Move = refl
-empty-list Sentence = refl
-empty-list Place = refl
+empty-list k = ap (listOf k) (items-of (itemsBy (λ k. []))) ∙ list-by (λ k. []) k
 
 -- ---- a record that is refused
 
@@ -256,7 +256,7 @@ pub record IsTaken (c : Case) (bs : List ℕ) : Type 0 where
   pub kind : Kind
   pub letter : getD bs 0 0 ≡ letterOf kind
   pub fit : Fit kind (recordOf bs .fields)
-  pub next : Next (c .count) (c .loops) kind (recordOf bs)
+  pub next : Next (c .count) (c .derived .loops) kind (recordOf bs)
   pub case : takenOf c bs .case ≡ with c kind (itemOf kind (recordOf bs .fields))
 
 -- a stage with one test and a refusal
@@ -277,10 +277,10 @@ fit-is k bs e =
     let p3 = passed (leb (low fault.Extra) fields) (Misfilled (low fault.Extra)) (rangeAnswer s r) refl (p2 .1) in
     let p4 = passed (leb (low fault.OutOfRange) fields) (OutOfRange (low fault.OutOfRange)) Taken refl (p3 .1) in
     record {
-      spelled = none fault.Misspelled (p0 .0);
-      full = none fault.Missing (p2 .0);
-      bare = none fault.Extra (p3 .0);
-      ranged = none fault.OutOfRange (p4 .0);
+      spelled = λ g. tells-not _ (tells-bad (r .fields) g) (none fault.Misspelled (p0 .0) g);
+      full = λ g. tells-not _ (tells-missing k (r .fields) g) (none fault.Missing (p2 .0) g);
+      bare = λ g. tells-not _ (tells-extra k (r .fields) g) (none fault.Extra (p3 .0) g);
+      ranged = λ g. tells-not _ (tells-outside k (r .fields) g) (none fault.OutOfRange (p4 .0) g);
     }
 
 place-is : (l : Loops) (n : ℕ) (r : List Field) → isTaken (placeAnswer l n r) ≡ true → Placed l n r
@@ -302,7 +302,7 @@ next-is n l k bs e =
     let p2 = passed (leb m fields) (NotThere m) (layoutAnswer k n l (r .fields)) refl (p1 .1) in
     record {
       room = leb-false (roomOf k) (countOf n k) (p1 .0);
-      there = fault-none (fault.NotThere n) s bs (leb-false m fields (p2 .0));
+      there = λ g. tells-not _ (tells-there k (r .fields) g n) (fault-none (fault.NotThere n) s bs (leb-false m fields (p2 .0)) g);
       place = λ i. place-is l (n .places) (r .fields) (subst (λ j. isTaken (layoutAnswer j n l (r .fields)) ≡ true) i (p2 .1));
     }
 
@@ -323,12 +323,12 @@ module _ (c : Case) (bs : List ℕ) where
   taken-by (Refused a) r e t = absurd (true≢false (sym t ∙ r))
   taken-by (Of k) r e t =
       let s = shapeOf k (recordOf bs) in
-      let b = both-take (fieldsAnswer s (recordOf bs)) (orderAnswer (c .count) (c .loops) s (recordOf bs)) t in
+      let b = both-take (fieldsAnswer s (recordOf bs)) (orderAnswer (c .count) (c .derived .loops) s (recordOf bs)) t in
       record {
         kind = k;
         letter = r;
         fit = fit-is k bs (b .0);
-        next = next-is (c .count) (c .loops) k bs (b .1);
+        next = next-is (c .count) (c .derived .loops) k bs (b .1);
         case = ap (λ h. takenBy c h bs .case) e ∙ ap (λ q. cond q (with c k (itemOf k (recordOf bs .fields))) c) t;
       }
 

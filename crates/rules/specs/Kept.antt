@@ -1,10 +1,10 @@
 -- Every case that is made by taking records is sound: the empty one is, and taking a record keeps it so. Assumes nothing.
-use mathlib.Core.Path.{_≡_, refl, _∙_, sym, ap, ap₂, subst, subst₂}
-use mathlib.Core.Logic.{_↔_}
+use mathlib.Core.Path.{_≡_, refl, _∙_, sym, ap, subst, subst₂}
+use mathlib.Core.Logic.{_↔_, inl, inr, ⊎-elim}
 use mathlib.Core.List.{List, [], _∷_, _++_}
 use mathlib.Core.Bool.{Bool, true, false, cond, _&&_, _||_, true≢false}
-use Prim.Native.Nat.{ℕ, zero, suc, _+_, _≤_, _<_}
-use native.Mathlib.Nat.{pow-le-pow-right}
+use Prim.Native.Nat.{ℕ, zero, suc, _+_, _^_, _≤_, _<_}
+use native.Mathlib.Nat.{le-refl, pow-le-pow-right}
 use native.Mathlib.Omega.{arith}
 use native.Mathlib.Decide.{decLt}
 use borrow.Author.Tests.{ltb-false, leb-false, lt-leb}
@@ -26,7 +26,7 @@ use Rattle.kinds.specs.declared.Rule.{Rule}
 use Rattle.kinds.specs.declared.Rule.the-variants as rule
 use Rattle.kinds.specs.Kinds.{countOf}
 use Rattle.kinds.specs.Table.{natural, isNumber, isBlank, neededIf, inFilled, ruleAt, shapeOf}
-use Rattle.faults.specs.Faults.{outside, atLeast, dangling, notThere}
+use Rattle.faults.specs.Faults.{outside}
 use Rattle.items.specs.declared.Ref.{Ref}
 use Rattle.items.specs.declared.Ref.the-variants as ref
 use Rattle.items.specs.declared.LoopMark.{LoopMark}
@@ -34,80 +34,53 @@ use Rattle.items.specs.declared.LoopMark.the-variants as mark
 use Rattle.items.specs.declared.Place.{Place}
 use Rattle.items.specs.Items.{Item, itemOf, rowOf, reference}
 use Rattle.plan.specs.declared.Loops.{Loops}
+use Rattle.plan.specs.declared.Derived.{Derived}
 use Rattle.plan.specs.declared.Case.{Case}
-use Rattle.plan.specs.Cases.{roomOf, noItem, listOf, itemsOf, with, noLoops, loopsAfter, emptyCase}
+use Rattle.plan.specs.Cases.{roomOf, noItem, listOf, itemsOf, oneMore, with, noLoops, loopsFrom, emptyCase}
 use Rattle.plan.specs.Taking.{isClosed, isOpen, isLong, isTaken, takenOf}
-use Rattle.rules.specs.Sound.{Sound, Fit, There, reach, shape, LoopsApart, loopsFrom}
-use Rattle.rules.specs.Fields.{fields-again}
-use Rattle.rules.specs.Held.{sound-is-kept, by-kind, other-list, count-with, counted, same-kind, long-with, room-with, padded-with, empty-kept}
+use Rattle.rules.specs.Sound.{Sound, Fit, There, reach, shape, LoopsApart}
+use Rattle.rules.specs.Fields.{met, fields-again}
+use Rattle.rules.specs.Held.{by-kind, count-more, count-other, counted, kept-counted, derived, same-kind, other-list, kept-with, empty-kept, empty-list}
 use Rattle.rules.specs.Held.{refused-same, Placed, IsTaken, taken-with}
-use Rattle.rules.specs.Loops.{loops-snoc, MarkFits, apart-snoc}
+use Rattle.rules.specs.Loops.{MarkFits, apart-snoc}
 
 -- ---- what is there stays there
 
 -- m has at least as many of each kind
-record AtMost (n m : Counts) : Type 0 where
-  states : n .states ≤ m .states
-  guards : n .guards ≤ m .guards
-  moves : n .moves ≤ m .moves
-  sentences : n .sentences ≤ m .sentences
-  places : n .places ≤ m .places
-
-at-most : {n m : Counts} → AtMost n m → (k : Kind) → countOf n k ≤ countOf m k
-at-most a kind.State = a .states
-at-most a kind.Guard = a .guards
-at-most a kind.Move = a .moves
-at-most a kind.Sentence = a .sentences
-at-most a kind.Place = a .places
+abbrev AtMost : Counts → Counts → Type 0
+AtMost n m = (k : Kind) → countOf n k ≤ countOf m k
 
 -- with one item more; what an item reaches grows with what is held, and the new item reaches all that was held
-more : (c : Case) (k : Kind) (x : Item k) → AtMost (c .count) (with c k x .count)
-more c kind.State x = omega arith
-more c kind.Guard x = omega arith
-more c kind.Move x = omega arith
-more c kind.Sentence x = omega arith
-more c kind.Place x = omega arith
+more : (n : Counts) (k : Kind) → AtMost n (oneMore n k)
+more n k =
+    by-kind (λ j. countOf n j ≤ countOf (oneMore n k) j) k (omega (arith, count-more n k)) (λ j e. omega (arith, count-other n k j e))
 
 reaches : {n m : Counts} → AtMost n m → (k : Kind) (i : ℕ) → AtMost (reach n k i) (reach m k i)
 reaches a kind.State i = a
 reaches a kind.Guard i = a
 reaches a kind.Move i = a
-reaches a kind.Sentence i = omega arith
+reaches a kind.Sentence i =
+    elim [ kind.State ↦ a kind.State | kind.Guard ↦ a kind.Guard | kind.Move ↦ a kind.Move | kind.Sentence ↦ le-refl i | kind.Place ↦ a kind.Place ]
 reaches a kind.Place i = a
 
-reaches-held : (c : Case) (k : Kind) (x : Item k) → AtMost (c .count) (reach (with c k x .count) k (countOf (c .count) k))
-reaches-held c kind.State x = omega arith
-reaches-held c kind.Guard x = omega arith
-reaches-held c kind.Move x = omega arith
-reaches-held c kind.Sentence x = omega arith
-reaches-held c kind.Place x = omega arith
-
-below : {n m : ℕ} → n ≤ m → (c : Content) → atLeast n c ≡ false → atLeast m c ≡ false
-below h content.Blank e = refl
-below {n} {m} h (content.Number (pos z)) e = lt-leb m z (omega (arith, leb-false n z e))
-below h (content.Number (negsuc z)) e = refl
-below h content.Bad e = refl
-
-module _ {n m : Counts} (a : AtMost n m) (c : Content) where
-  refers : (s : Sort) → dangling n s c ≡ false → dangling m s c ≡ false
-  refers (sort.Reference k) e = below (at-most a k) c e
-  refers sort.Marks e = below (pow-le-pow-right {n = 2} (omega arith) (a .sentences)) c e
-  refers sort.Propositions e = refl
-  refers sort.Coefficient e = refl
-  refers sort.Bound e = refl
-  refers sort.Update e = refl
-  refers sort.Form e = refl
-  refers sort.Proposition e = refl
-  refers sort.LoopLength e = refl
-  refers sort.Rounds e = refl
-
-  stays : (u : Rule) → notThere n u c ≡ false → notThere m u c ≡ false
-  stays rule.Blank e = refl
-  stays (rule.Needed s) e = refers s e
-  stays (rule.Optional s) e = refers s e
+reaches-held : (n : Counts) (k : Kind) → AtMost n (reach (oneMore n k) k (countOf n k))
+reaches-held n kind.State = more n kind.State
+reaches-held n kind.Guard = more n kind.Guard
+reaches-held n kind.Move = more n kind.Move
+reaches-held n kind.Sentence =
+    elim [ kind.State ↦ le-refl _ | kind.Guard ↦ le-refl _ | kind.Move ↦ le-refl _ | kind.Sentence ↦ le-refl _ | kind.Place ↦ le-refl _ ]
+reaches-held n kind.Place = more n kind.Place
 
 there-more : {n m : Counts} → AtMost n m → (k : Kind) (r : List Field) → There n k r → There m k r
-there-more a k r t f = stays a (at r f) (ruleAt (shape k r) f) (t f)
+there-more {n} {m} a k r t f (z, d, h) =
+    t f (
+      z,
+      d,
+      ⊎-elim
+          (λ (j, u, l). let le : countOf n j ≤ z = omega (arith, a j) in inl (j, u, le))
+          (λ (u, l). let le : 2 ^ n .sentences ≤ z = omega (arith, pow-le-pow-right {n = 2} (omega arith) (a kind.Sentence)) in inr (u, le))
+          h,
+    )
 
 -- ---- the fields of a place
 
@@ -145,7 +118,7 @@ long-enough : (r : List Field) → Fit kind.Place r → (l : ℕ) → at r 4 ≡
 unfolding ruleAt shapeOf
 long-enough r f l e =
     let x = inFilled (shape kind.Place r .filled) in
-    in-range (x 5 || x 6) l (subst (λ c. outside (ruleAt (shape kind.Place r) 4) c ≡ false) e (f .ranged 4))
+    in-range (x 5 || x 6) l (subst (λ c. outside (ruleAt (shape kind.Place r) 4) c ≡ false) e (met f 4 .ranged))
 
 -- the tests of its mark, where n places are held
 mark-fits : (l : Loops) (n : ℕ) (m : LoopMark) → n < roomOf kind.Place → isClosed l n ≡ false →
@@ -179,40 +152,39 @@ record Fits (c : Case) (k : Kind) (x : Item k) : Type 0 where
   fit : Fit k (rowOf k x)
   there : There (c .count) k (rowOf k x)
   read : itemOf k (rowOf k x) ≡ x
-  place : k ≡ kind.Place → Placed (c .loops) (c .count .places) (rowOf k x)
+  place : k ≡ kind.Place → Placed (c .derived .loops) (c .count .places) (rowOf k x)
 
--- what a sound case has of its n places ps, with the loops kept beside them
-record Places (n : ℕ) (l : Loops) (ps : List Place) : Type 0 where
+-- what a sound case has of its n places ps
+record Places (n : ℕ) (ps : List Place) : Type 0 where
   ways : (i : ℕ) → i < n → (i ≡ 0) ↔ (getD ps i (noItem kind.Place) .way ≡ ref.None)
   loops : LoopsApart ps
-  derived : l ≡ loopsFrom noLoops 0 ps
 
-one-place : (n : ℕ) (l : Loops) (ps : List Place) (p : Place) → length ps ≡ n → n < roomOf kind.Place → Places n l ps →
-    Fit kind.Place (rowOf kind.Place p) → Placed l n (rowOf kind.Place p) → Places (n + 1) (loopsAfter l n (p .mark)) (ps ++ (p ∷ []))
-one-place n l ps p e h s f t =
-    let z : n ≡ 0 + length ps = omega arith in
+one-place : (n : ℕ) (ps : List Place) (p : Place) → length ps ≡ n → n < roomOf kind.Place → Places n ps →
+    Fit kind.Place (rowOf kind.Place p) → Placed (loopsFrom noLoops 0 ps) n (rowOf kind.Place p) → Places (n + 1) (ps ++ (p ∷ []))
+one-place n ps p e h s f t =
+    let l = loopsFrom noLoops 0 ps in
     let q : at (rowOf kind.Place p) 4 ≡ lengthField (p .mark) = field-four (p .state) (p .way) (p .marks) (p .mark) in
     let w : (n ≡ 0) ↔ (p .way ≡ ref.None) = way-at n (p .way) (rw (field-two p) at (t .way)) in
     let m : MarkFits l n (p .mark) = mark-fits l n (p .mark) h (t .before) (rw q at (t .mark)) (λ j g. long-enough (rowOf kind.Place p) f j (q ∙ g)) in
     record {
       ways = all-snoc (λ i (q : Place). (i ≡ 0) ↔ (q .way ≡ ref.None)) ps p (noItem kind.Place) n e (s .ways) w;
-      loops = apart-snoc ps p (s .loops) (subst₂ (λ k j. MarkFits k j (p .mark)) (s .derived) (sym e) m) (omega arith);
-      derived = ap₂ (λ k j. loopsAfter k j (p .mark)) (s .derived) z ∙ sym (loops-snoc noLoops 0 ps p);
+      loops = apart-snoc ps p (s .loops) (subst (λ j. MarkFits l j (p .mark)) (sym e) m) (omega arith);
     }
 
 module _ (c : Case) (s : Sound c) where
-  places : Places (c .count .places) (c .loops) (itemsOf c .places)
-  places = record { ways = s .ways; loops = s .loops; derived = s .derived }
+  places : Places (c .count .places) (itemsOf c .places)
+  places = record { ways = s .ways; loops = s .loops }
 
-  places-with : (k : Kind) (x : Item k) → Fits c k x → Places (with c k x .count .places) (with c k x .loops) (itemsOf (with c k x) .places)
+  places-with : (k : Kind) (x : Item k) → Fits c k x → Places (with c k x .count .places) (itemsOf (with c k x) .places)
   places-with kind.State x t = places
   places-with kind.Guard x t = places
   places-with kind.Move x t = places
   places-with kind.Sentence x t = places
   places-with kind.Place p t =
       let n = c .count .places in
-      subst (Places (n + 1) (loopsAfter (c .loops) n (p .mark))) (sym (same-kind c kind.Place p (sound-is-kept s) (t .room)))
-      (one-place n (c .loops) (itemsOf c .places) p (counted c s kind.Place) (t .room) places (t .fit) (t .place refl))
+      subst (Places (n + 1)) (sym (same-kind c kind.Place p (s .same) (t .room)))
+      (one-place n (itemsOf c .places) p (counted c s kind.Place) (t .room) places (t .fit)
+      (subst (λ (d : Derived). Placed (d .loops) n (rowOf kind.Place p)) (derived s) (t .place refl)))
 
   module _ (k : Kind) (x : Item k) (t : Fits c k x) where
     -- what is true of every item that is held, and of the next
@@ -222,52 +194,47 @@ module _ (c : Case) (s : Sound c) where
         (j : Kind) (i : ℕ) → i < countOf (with c k x .count) j → P j i (getD (listOf j (itemsOf (with c k x))) i (noItem j))
     all-with P old new =
         by-kind (λ j. (i : ℕ) → i < countOf (with c k x .count) j → P j i (getD (listOf j (itemsOf (with c k x))) i (noItem j))) k
-        (subst₂ (λ n l. (i : ℕ) → i < n → P k i (getD l i (noItem k))) (sym (count-with c k x))
-        (sym (same-kind c k x (sound-is-kept s) (t .room)))
+        (subst₂ (λ n l. (i : ℕ) → i < n → P k i (getD l i (noItem k))) (sym (count-more (c .count) k))
+        (sym (same-kind c k x (s .same) (t .room)))
         (all-snoc (P k) (listOf k (itemsOf c)) x (noItem k) (countOf (c .count) k) (counted c s k) (old k) new))
-        (λ j o. subst₂ (λ n l. (i : ℕ) → i < n → P j i (getD l i (noItem j))) (sym (o .count c x)) (sym (other-list c j k x o)) (old j))
+        (λ j o. subst₂ (λ n l. (i : ℕ) → i < n → P j i (getD l i (noItem j))) (sym (count-other (c .count) k j o))
+        (sym (other-list c k x (s .same) (t .room) j o)) (old j))
 
     sound-with : Sound (with c k x)
     sound-with =
         let p = places-with k x t in
         record {
-          long = long-with c k x (sound-is-kept s) (t .room);
-          room = room-with c k x (sound-is-kept s) (t .room);
-          padded = padded-with c k x (sound-is-kept s) (t .room) (s .padded);
+          same = kept-with c k x (s .same) (t .room);
+          room =
+              by-kind (λ j. countOf (with c k x .count) j ≤ roomOf j) k (omega (arith, count-more (c .count) k, t .room))
+              (λ j o. omega (arith, count-other (c .count) k j o, s .room j));
           fit = all-with (λ j i y. Fit j (rowOf j y)) (s .fit) (t .fit);
           there =
               all-with (λ j i y. There (reach (with c k x .count) j i) j (rowOf j y))
-              (λ j i h. there-more (reaches (more c k x) j i) j (rowOf j (getD (listOf j (itemsOf c)) i (noItem j))) (s .there j i h))
-              (there-more (reaches-held c k x) k (rowOf k x) (t .there));
+              (λ j i h. there-more (reaches (more (c .count) k) j i) j (rowOf j (getD (listOf j (itemsOf c)) i (noItem j))) (s .there j i h))
+              (there-more (reaches-held (c .count) k) k (rowOf k x) (t .there));
           read = all-with (λ j i y. itemOf j (rowOf j y) ≡ y) (s .read) (t .read);
           ways = p .ways;
           loops = p .loops;
-          derived = p .derived;
         }
 
 -- ---- the empty case, and a record more
 
 pub sound-empty : Sound emptyCase
-unfolding emptyCase loopsFrom
+unfolding emptyCase
 sound-empty =
     record {
-      long = empty-kept .long;
-      room = empty-kept .room;
-      padded = elim [ kind.State ↦ refl | kind.Guard ↦ refl | kind.Move ↦ refl | kind.Sentence ↦ refl | kind.Place ↦ refl ];
-      fit = λ k i h. absurd (nothing k i h);
-      there = λ k i h. absurd (nothing k i h);
-      read = λ k i h. absurd (nothing k i h);
-      ways = λ i h. absurd (nothing kind.Place i h);
+      same = empty-kept;
+      room = λ k. omega (arith, none k);
+      fit = λ k i h. absurd (omega (arith, none k));
+      there = λ k i h. absurd (omega (arith, none k));
+      read = λ k i h. absurd (omega (arith, none k));
+      ways = λ i h. absurd (omega arith);
       loops = record { apart = λ p q b h m. absurd (omega arith); within = λ p h. absurd (omega arith); last = λ p e. omega arith };
-      derived = refl;
     }
   where
-    nothing : (k : Kind) (i : ℕ) → i < countOf (emptyCase .count) k → ⊥
-    nothing kind.State i h = omega arith
-    nothing kind.Guard i h = omega arith
-    nothing kind.Move i h = omega arith
-    nothing kind.Sentence i h = omega arith
-    nothing kind.Place i h = omega arith
+    none : (k : Kind) → countOf (emptyCase .count) k ≡ 0
+    none k = sym (kept-counted emptyCase empty-kept k) ∙ ap length (empty-list k)
 
 taken-fits : (c : Case) (bs : List ℕ) (t : IsTaken c bs) → Fits c (t .kind) (itemOf (t .kind) (recordOf bs .fields))
 unfolding recordOf
@@ -280,7 +247,7 @@ taken-fits c bs t =
       fit = subst (Fit k) e (t .fit);
       there = subst (There (c .count) k) e (t .next .there);
       read = ap (itemOf k) (sym e);
-      place = λ q. subst (Placed (c .loops) (c .count .places)) e (t .next .place q);
+      place = λ q. subst (Placed (c .derived .loops) (c .count .places)) e (t .next .place q);
     }
 
 pub sound-kept : (c : Case) (bs : List ℕ) → Sound c → Sound (takenOf c bs .case)

@@ -8,7 +8,7 @@ use lib.Dec.{eqb}
 use lib.ListN.{length, getD}
 use borrow.Author.Tests.{eqb-true, eqb-false}
 use Rattle.integer.specs.Tests.{cond-by}
-use Rattle.record.specs.Layout.{recordLength}
+use Rattle.record.specs.Layout.{recordLength, lineFeed}
 use Rattle.kinds.specs.declared.Kind.{Kind}
 use Rattle.kinds.specs.declared.Kind.the-variants.{State, Guard, Move, Sentence, Place}
 use Rattle.kinds.specs.declared.Letter.{Letter}
@@ -17,7 +17,7 @@ use Rattle.kinds.specs.Kinds.{letterOf, kindOf}
 use Rattle.faults.specs.declared.Answer.the-variants.{NotARecord, NoLineFeed, NoSuchKind}
 use Rattle.faults.specs.declared.Head.{Head}
 use Rattle.faults.specs.declared.Head.the-variants.{Of, Refused}
-use Rattle.faults.specs.Input.{lineFeed, namedHead, endedHead, headOf}
+use Rattle.faults.specs.Input.{namedHead, endedHead, headOf}
 use Rattle.rules.specs.Rules.{IsA}
 
 named : (k : Kind) → kindOf (letterOf k) ≡ Names k

@@ -1,4 +1,5 @@
 pub mod Rules
+pub mod Tells
 pub mod Sound
 pub mod Files
 pub mod Letters
@@ -9,5 +10,4 @@ pub mod Stages
 pub mod First
 pub mod Kept
 pub mod Spelled
-pub mod Bounds
 pub mod Theorems

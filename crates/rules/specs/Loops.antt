@@ -16,10 +16,10 @@ use Rattle.items.specs.declared.LoopMark.{LoopMark}
 use Rattle.items.specs.declared.LoopMark.the-variants as mark
 use Rattle.items.specs.declared.Place.{Place}
 use Rattle.plan.specs.declared.Loops.{Loops}
-use Rattle.plan.specs.Cases.{Items, roomOf, noItem, noLoops, loopsAfter}
+use Rattle.plan.specs.Cases.{Items, roomOf, noItem, noLoops, loopsAfter, loopsFrom}
 use Rattle.plan.specs.Taking.{isClosed, isOpen}
 use Rattle.rules.specs.Rules.{markAt, lengthOf, isEndless, endAt, Closed, Open}
-use Rattle.rules.specs.Sound.{LoopsApart, loopsFrom}
+use Rattle.rules.specs.Sound.{LoopsApart}
 
 pub loops-snoc : (l : Loops) (n : ℕ) (ps : List Place) (p : Place) →
     loopsFrom l n (ps ++ (p ∷ [])) ≡ loopsAfter (loopsFrom l n ps) (n + length ps) (p .mark)

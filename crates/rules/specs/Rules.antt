@@ -4,25 +4,31 @@ use mathlib.Core.Path.{_≡_}
 use mathlib.Core.Logic.{_⊎_}
 use mathlib.Core.List.{List}
 use mathlib.Core.Bool.{Bool, true, false}
-use Prim.Native.Nat.{ℕ, _+_, _-_, _≤_, _<_}
+use Prim.Native.Nat.{ℕ, _+_, _-_, _^_, _≤_, _<_}
+use lib.IntN.{ℤ, pos}
+use lib.Signed.{_≤ℤ_}
 use lib.ListN.{length, getD}
 use Rattle.record.specs.declared.Content.{Content}
-use Rattle.record.specs.Layout.{recordLength, recordOf, at}
+use Rattle.record.specs.declared.Content.the-variants.{Blank, Number, Bad}
+use Rattle.record.specs.declared.Field.{Field}
+use Rattle.record.specs.Layout.{recordLength, lineFeed, recordOf, at}
 use Rattle.kinds.specs.declared.Kind.{Kind}
 use Rattle.kinds.specs.declared.Kind.the-variants as kind
 use Rattle.kinds.specs.declared.Counts.{Counts}
+use Rattle.kinds.specs.declared.Sort.{Sort}
+use Rattle.kinds.specs.declared.Sort.the-variants.{Form, Marks, Reference}
 use Rattle.kinds.specs.declared.Rule.{Rule}
-use Rattle.kinds.specs.Kinds.{letterOf, rankOf}
-use Rattle.kinds.specs.Table.{shapeOf, ruleAt, natural, isNumber, isBlank}
+use Rattle.kinds.specs.declared.Rule.the-variants as rule
+use Rattle.kinds.specs.declared.Rule.the-variants.{Needed, Optional}
+use Rattle.kinds.specs.Kinds.{letterOf, rankOf, countOf}
+use Rattle.kinds.specs.Table.{shapeOf, ruleAt, rangeOf, natural}
 use Rattle.faults.specs.declared.Answer.{Answer}
 use Rattle.faults.specs.declared.Answer.the-variants.{Taken, NotARecord, NoLineFeed, NoSuchKind, Misspelled, Misfilled, OutOfRange, OutOfOrder, NoRoom, NotThere, Misplaced, WrongWayIn}
-use Rattle.faults.specs.Faults.{misspelled, missing, extra, outside, notThere}
 use Rattle.faults.specs.Answers.{Before}
-use Rattle.faults.specs.Input.{lineFeed, wrongForm}
 use Rattle.items.specs.declared.LoopMark.{LoopMark}
 use Rattle.items.specs.declared.LoopMark.the-variants as mark
 use Rattle.items.specs.declared.Place.{Place}
-use Rattle.plan.specs.Cases.{Items, listOf, roomOf, noItem}
+use Rattle.plan.specs.Cases.{Items, listOf, countsOf, roomOf, noItem}
 
 -- ---- a record
 
@@ -30,55 +36,65 @@ use Rattle.plan.specs.Cases.{Items, listOf, roomOf, noItem}
 abbrev pub IsA : Kind → List ℕ → Type 0
 IsA k bs = getD bs 0 0 ≡ letterOf k
 
--- what field f says, counted from 1
-abbrev pub contentAt : List ℕ → ℕ → Content
-contentAt bs f = at (recordOf bs .fields) f
+-- the row of fields of the record
+abbrev pub fieldsOf : List ℕ → List Field
+fieldsOf bs = recordOf bs .fields
 
--- the rule of field f, counted from 1, if the record is of kind k
-abbrev pub ruleFor : Kind → List ℕ → ℕ → Rule
-ruleFor k bs f = ruleAt (shapeOf k (recordOf bs)) f
+-- what field f of the record says, counted from 1
+abbrev pub contentAt : List ℕ → ℕ → Content
+contentAt bs f = at (fieldsOf bs) f
+
+-- ---- a row of fields, if it is of kind k
+
+-- the rule of field f, counted from 1
+abbrev pub ruleFor : Kind → List Field → ℕ → Rule
+ruleFor k r f = ruleAt (shapeOf k (record { fields = r })) f
+
+-- a field with this rule may have numbers of sort s
+abbrev pub Allows : Rule → Sort → Type 0
+Allows u s = (u ≡ Needed s) ⊎ (u ≡ Optional s)
+
+-- what is said is a number
+abbrev pub IsNumber : Content → Type 0
+IsNumber c = (z : ℤ) × (c ≡ Number z)
+
+-- a number is in the range of its sort
+abbrev pub InRange : Sort → ℤ → Type 0
+InRange s z = (rangeOf s .low ≤ℤ z) × (z ≤ℤ rangeOf s .high)
+
+-- field f is neither blank nor a number as it is spelled
+abbrev pub IsBad : List Field → ℕ → Type 0
+IsBad r f = at r f ≡ Bad
+
+-- field f is needed and blank
+abbrev pub IsMissing : Kind → List Field → ℕ → Type 0
+IsMissing k r f = ((s : Sort) × (ruleFor k r f ≡ Needed s)) × (at r f ≡ Blank)
+
+-- field f must be blank and is filled
+abbrev pub IsExtra : Kind → List Field → ℕ → Type 0
+IsExtra k r f = (ruleFor k r f ≡ rule.Blank) × IsNumber (at r f)
+
+-- field f is a number outside its range
+abbrev pub IsOutside : Kind → List Field → ℕ → Type 0
+IsOutside k r f = (s : Sort) × (z : ℤ) × Allows (ruleFor k r f) s × (at r f ≡ Number z) × (InRange s z → ⊥)
+
+-- field f refers to an item that is not there where so many are held, or has a mark at or above the number of sentences
+abbrev pub IsNotThere : Counts → Kind → List Field → ℕ → Type 0
+IsNotThere n k r f =
+    (m : ℕ)
+    × (at r f ≡ Number (pos m))
+    × (((j : Kind) × Allows (ruleFor k r f) (Reference j) × (countOf n j ≤ m)) ⊎ (Allows (ruleFor k r f) Marks × (2 ^ n .sentences ≤ m)))
+
+-- if it is a sentence and its form is filled, there is such a form: only then is it said what the other fields must be
+abbrev pub HasForm : Kind → List Field → Type 0
+HasForm k r = k ≡ kind.Sentence → (z : ℤ) → at r 1 ≡ Number z → InRange Form z
 
 -- f is the lowest field of which P is true
 pub record Lowest (P : ℕ → Type 0) (f : ℕ) : Type 0 where
   pub holds : P f
   pub before : (g : ℕ) → g < f → P g → ⊥
 
--- field f is neither blank nor a number as it is spelled
-abbrev pub IsBad : List ℕ → ℕ → Type 0
-IsBad bs f = misspelled (contentAt bs f) ≡ true
-
--- field f is needed and blank
-abbrev pub IsMissing : Kind → List ℕ → ℕ → Type 0
-IsMissing k bs f = missing (ruleFor k bs f) (contentAt bs f) ≡ true
-
--- field f must be blank and is filled
-abbrev pub IsExtra : Kind → List ℕ → ℕ → Type 0
-IsExtra k bs f = extra (ruleFor k bs f) (contentAt bs f) ≡ true
-
--- field f is a number outside its range
-abbrev pub IsOutside : Kind → List ℕ → ℕ → Type 0
-IsOutside k bs f = outside (ruleFor k bs f) (contentAt bs f) ≡ true
-
--- if it is a sentence and its form is filled, there is such a form: only then is it said what the other fields must be
-abbrev pub HasForm : Kind → List ℕ → Type 0
-HasForm k bs = wrongForm (shapeOf k (recordOf bs)) (recordOf bs) ≡ false
-
 -- ---- a case
-
--- how many items of each kind it has
-abbrev pub countsOf : Items → Counts
-countsOf x =
-    record {
-      states = length (x .states);
-      guards = length (x .guards);
-      moves = length (x .moves);
-      sentences = length (x .sentences);
-      places = length (x .places);
-    }
-
--- field f refers to an item that is not there, or has a mark at or above the number of sentences
-abbrev pub IsNotThere : Items → Kind → List ℕ → ℕ → Type 0
-IsNotThere x k bs f = notThere (countsOf x) (ruleFor k bs f) (contentAt bs f) ≡ true
 
 -- the loop mark of place p
 abbrev pub markAt : List Place → ℕ → LoopMark
@@ -115,12 +131,12 @@ pub record Open (x : Items) : Type 0 where
 -- the record has a loop mark inside an open loop, or one whose loop would pass the last place
 abbrev pub MarkMisplaced : Items → List ℕ → Type 0
 MarkMisplaced x bs =
-    (isNumber (contentAt bs 4) ≡ true) × (Open x ⊎ (roomOf kind.Place < length (x .places) + natural (contentAt bs 4)))
+    IsNumber (contentAt bs 4) × (Open x ⊎ (roomOf kind.Place < length (x .places) + natural (contentAt bs 4)))
 
 -- field 2 is filled at place 0, or blank later
 abbrev pub WayInWrong : Items → List ℕ → Type 0
 WayInWrong x bs =
-    ((length (x .places) ≡ 0) × (isNumber (contentAt bs 2) ≡ true)) ⊎ ((0 < length (x .places)) × (isBlank (contentAt bs 2) ≡ true))
+    ((length (x .places) ≡ 0) × IsNumber (contentAt bs 2)) ⊎ ((0 < length (x .places)) × (contentAt bs 2 ≡ Blank))
 
 -- ---- the rules
 
@@ -130,16 +146,16 @@ Applies x bs Taken = ⊥
 Applies x bs NotARecord = length bs ≡ recordLength → ⊥
 Applies x bs NoLineFeed = getD bs (recordLength - 1) 0 ≡ lineFeed → ⊥
 Applies x bs NoSuchKind = (k : Kind) → IsA k bs → ⊥
-Applies x bs (Misspelled f) = Lowest (IsBad bs) f
+Applies x bs (Misspelled f) = Lowest (IsBad (fieldsOf bs)) f
 Applies x bs (Misfilled f) =
     (k : Kind)
     × IsA k bs
-    × HasForm k bs
-    × (Lowest (IsMissing k bs) f ⊎ (((g : ℕ) → IsMissing k bs g → ⊥) × Lowest (IsExtra k bs) f))
-Applies x bs (OutOfRange f) = (k : Kind) × IsA k bs × Lowest (IsOutside k bs) f
+    × HasForm k (fieldsOf bs)
+    × (Lowest (IsMissing k (fieldsOf bs)) f ⊎ (((g : ℕ) → IsMissing k (fieldsOf bs) g → ⊥) × Lowest (IsExtra k (fieldsOf bs)) f))
+Applies x bs (OutOfRange f) = (k : Kind) × IsA k bs × Lowest (IsOutside k (fieldsOf bs)) f
 Applies x bs OutOfOrder = (k : Kind) × IsA k bs × ((j : Kind) × (rankOf k < rankOf j) × (0 < length (listOf j x)))
 Applies x bs NoRoom = (k : Kind) × IsA k bs × (roomOf k ≤ length (listOf k x))
-Applies x bs (NotThere f) = (k : Kind) × IsA k bs × Lowest (IsNotThere x k bs) f
+Applies x bs (NotThere f) = (k : Kind) × IsA k bs × Lowest (IsNotThere (countsOf x) k (fieldsOf bs)) f
 Applies x bs (Misplaced f) =
     IsA kind.Place bs × ((Closed x × (f ≡ 0)) ⊎ ((Closed x → ⊥) × MarkMisplaced x bs × (f ≡ 4)))
 Applies x bs WrongWayIn = IsA kind.Place bs × WayInWrong x bs

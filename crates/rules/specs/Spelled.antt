@@ -17,7 +17,7 @@ use Rattle.kinds.specs.Kinds.{letterOf}
 use Rattle.items.specs.Items.{Item, itemOf, rowOf}
 use Rattle.plan.specs.declared.Case.{Case}
 use Rattle.plan.specs.declared.Run.{Run}
-use Rattle.plan.specs.Cases.{listOf, itemsOf, with, emptyCase}
+use Rattle.plan.specs.Cases.{listOf, itemsBy, itemsOf, with, emptyCase}
 use Rattle.plan.specs.Taking.{isTaken, takenOf, runFrom, runOf, cut}
 use Rattle.rules.specs.Files.{rowsOf, spelledBy, size}
 use Rattle.rules.specs.Fields.{fields-again}
@@ -69,7 +69,7 @@ module _ (c : Case) (b : List ℕ) (rs : List (List ℕ)) (t : IsTaken c b) wher
       ∙ ap (λ l. listOf k (itemsOf c) ++ map (itemOf k) l) (sym (rows-same b rs k (t .letter))))
       (λ j o.
       ap (λ d. listOf j (itemsOf d) ++ map (itemOf j) (rowsOf j rs)) (t .case)
-      ∙ ap₂ (λ l r. l ++ map (itemOf j) r) (other-list c j k x o) (sym (rows-other b rs k (t .letter) j (o .letter))))
+      ∙ ap₂ (λ l r. l ++ map (itemOf j) r) (other-list c k x s (t .next .room) j o) (sym (rows-other b rs k (t .letter) j o)))
     where
       k : Kind
       k = t .kind
@@ -84,7 +84,7 @@ module _ (c : Case) (b : List ℕ) (rs : List (List ℕ)) (t : IsTaken c b) wher
       by-kind (λ j. map (rowOf j) (map (itemOf j) (rowsOf j (b ∷ rs))) ≡ rowsOf j (b ∷ rs)) (t .kind)
       (rw (rows-same b rs (t .kind) (t .letter))
       (ap₂ (λ r l. r ∷ l) (fields-again (t .kind) (recordOf b .fields) (length-row b) (t .fit)) (f (t .kind))))
-      (λ j o. rw (rows-other b rs (t .kind) (t .letter) j (o .letter)) (f j))
+      (λ j o. rw (rows-other b rs (t .kind) (t .letter) j o) (f j))
 
   kept-more : Kept c → Kept (takenOf c b .case)
   kept-more s = subst Kept (sym (t .case)) (kept-with c (t .kind) (itemOf (t .kind) (recordOf b .fields)) s (t .next .room))
@@ -150,14 +150,7 @@ pub record Spells (rs : List (List ℕ)) (r : Run) : Type 0 where
 pub spells : (rs : List (List ℕ)) → isTaken (runFrom emptyCase 0 rs .answer) ≡ true → Spells rs (runFrom emptyCase 0 rs)
 spells rs h =
     record {
-      items =
-          λ i. record {
-            states = list State i;
-            guards = list Guard i;
-            moves = list Move i;
-            sentences = list Sentence i;
-            places = list Place i;
-          };
+      items = λ i. itemsBy (λ k. list k i);
       rows = λ k. ap (map (rowOf k)) (list k) ∙ r .rows k;
       number = r .taken ∙ sym (r .items ∙ ap (λ n. n + length rs) empty-size);
       all = omega (arith, r .taken);

@@ -92,13 +92,18 @@ module _ (f : Fault) (s : Shape) (bs : List ℕ) where
   pub fault-none : fields < low → (k : ℕ) → faultAt f s (recordOf bs) k ≡ false
   fault-none h k = elim (decLt fields k) [ yes p ↦ past-fault f s bs k (λ q. p) | no p ↦ fault-before k (omega arith) ]
 
-  fault-first : low ≤ fields → Lowest (λ g. faultAt f s (recordOf bs) g ≡ true) low
-  unfolding lowestFault
-  fault-first h =
-      record {
-        holds = lowest-is (faultAt f s (recordOf bs)) fields 1 .holds (omega arith);
-        before = λ g l w. true≢false (sym w ∙ fault-before g l);
-      }
+  -- where the test tells whether P is true of a field, low is the lowest of which it is, or it is true of none
+  module _ {P : ℕ → Type 0} (w : (k : ℕ) → Tells (faultAt f s (recordOf bs) k) (P k)) where
+    fault-lowest : low ≤ fields → Lowest P low
+    unfolding lowestFault
+    fault-lowest h =
+        record {
+          holds = w low .0 (lowest-is (faultAt f s (recordOf bs)) fields 1 .holds (omega arith));
+          before = λ g l. tells-not _ (w g) (fault-before g l);
+        }
+
+    fault-nowhere : fields < low → Nowhere P
+    fault-nowhere h g = tells-not _ (w g) (fault-none h g)
 
 -- ---- answers by their numbers
 
@@ -150,12 +155,13 @@ module _ (x : Items) (bs : List ℕ) where
   tested n t a {b} w f g = cond-by (Ends n) t {x = a} {y = b} (λ e. inr (f (w .0 e))) (λ e. g (tells-not t w e))
 
   -- a fault, of which the lowest field is answered
-  pub fault-tested : (n : ℕ) (f : Fault) (s : Shape) (refused : ℕ → Answer) {b : Answer}
-      → ((g : ℕ) → Lowest (λ j. faultAt f s (recordOf bs) j ≡ true) g → IsFirst x bs (refused g))
-      → (Nowhere (λ j. faultAt f s (recordOf bs) j ≡ true) → Ends n b)
+  pub fault-tested : (n : ℕ) (f : Fault) (s : Shape) (refused : ℕ → Answer) {b : Answer} {P : ℕ → Type 0}
+      → ((k : ℕ) → Tells (faultAt f s (recordOf bs) k) (P k))
+      → ((g : ℕ) → Lowest P g → IsFirst x bs (refused g))
+      → (Nowhere P → Ends n b)
       → Ends n (orElse (lowestFault f s (recordOf bs)) refused b)
-  fault-tested n f s refused {b} some none =
+  fault-tested n f s refused {b} w some none =
       let m : ℕ = lowestFault f s (recordOf bs) in
       cond-by (Ends n) (leb m fields) {x = refused m} {y = b}
-      (λ e. inr (some m (fault-first f s bs (leb-true m fields e))))
-      (λ e. none (λ g w. true≢false (sym w ∙ fault-none f s bs (leb-false m fields e) g)))
+      (λ e. inr (some m (fault-lowest f s bs w (leb-true m fields e))))
+      (λ e. none (fault-nowhere f s bs w (leb-false m fields e)))

@@ -5,28 +5,28 @@ use mathlib.Core.Logic.{_⊎_}
 use mathlib.Core.List.{List, [], _∷_, _++_}
 use mathlib.Core.Bool.{true, false}
 use Prim.Native.Nat.{ℕ, _+_}
+use lib.IntN.{ℤ}
 use lib.ListN.{length}
 use Rattle.integer.specs.Tests.{cond-by}
+use Rattle.record.specs.declared.Content.the-variants.{Number}
 use Rattle.record.specs.Spelling.{contentOf}
 use Rattle.record.specs.Layout.{width, recordOf}
+use Rattle.spelling.specs.Spelled.{one-spelling, spellable-range}
 use Rattle.kinds.specs.declared.Kind.{Kind}
 use Rattle.kinds.specs.declared.Sort.the-variants.{Bound}
-use Rattle.kinds.specs.Table.{rangeOf}
 use Rattle.faults.specs.declared.Answer.{Answer}
-use Rattle.faults.specs.Faults.{beyond}
 use Rattle.items.specs.Items.{itemOf, rowOf}
 use Rattle.plan.specs.declared.Case.{Case}
 use Rattle.plan.specs.declared.Run.{Run}
-use Rattle.plan.specs.Cases.{emptyCase, itemsOf, listOf}
+use Rattle.plan.specs.Cases.{emptyCase, caseOf, itemsOf, listOf}
 use Rattle.plan.specs.Taking.{isTaken, takenOf, runFrom, runOf, cut}
-use Rattle.rules.specs.Rules.{IsA, Applies, IsFirst}
+use Rattle.rules.specs.Rules.{IsA, InRange, Applies, IsFirst}
 use Rattle.rules.specs.Sound.{Sound}
 use Rattle.rules.specs.Fields.{fields-again}
-use Rattle.rules.specs.Held.{sound-is-kept, same-kind, other-kind, refused-same, taken-with}
+use Rattle.rules.specs.Held.{same-kind, other-kind, refused-same, taken-with}
 use Rattle.rules.specs.First.{answers-first, first-one}
 use Rattle.rules.specs.Kept.{sound-empty, sound-kept}
 use Rattle.rules.specs.Spelled.{Spells, spells-file}
-use Rattle.rules.specs.Bounds.{any-bound}
 
 -- a record is taken where no refusal applies, and else gets the first that applies, of which there is one
 pub answers : (c : Case) (bs : List ℕ) → Sound c →
@@ -58,10 +58,14 @@ taken c bs s h =
     record {
       kind = k;
       named = t .letter;
-      item = ap (λ d. listOf k (itemsOf d)) (t .case) ∙ same-kind c k x (sound-is-kept s) (t .next .room);
+      item = ap (λ d. listOf k (itemsOf d)) (t .case) ∙ same-kind c k x (s .same) (t .next .room);
       fields = fields-again k r refl (t .fit);
-      others = λ j n. ap (λ d. listOf j (itemsOf d)) (t .case) ∙ other-kind c j k x n;
+      others = λ j n. ap (λ d. listOf j (itemsOf d)) (t .case) ∙ other-kind c k x (s .same) (t .next .room) j n;
     }
+
+-- a case with the invariant is its items: what it keeps beside them follows from them
+pub case-is : (c : Case) → Sound c → c ≡ caseOf (itemsOf c)
+case-is c s = s .same
 
 -- the empty case is sound, and every record, taken or refused, keeps a case so: what `take` and `take_all` hand back may be gone on with, and judged
 pub empty-sound : Sound emptyCase
@@ -91,6 +95,6 @@ sound bs = run-sound emptyCase bs empty-sound
 pub spelled-case : (bs : List ℕ) → isTaken (runOf emptyCase bs .answer) ≡ true → Spells (cut bs) (runOf emptyCase bs)
 spelled-case = spells-file
 
--- a bound may be any number that a field can spell: none that is read is outside its range
-pub bounds : (bs : List ℕ) → length bs ≡ width → beyond (rangeOf Bound) (contentOf bs) ≡ false
-bounds = any-bound
+-- a bound may be any number that a field can spell: each that is read is in its range
+pub bounds : (bs : List ℕ) → length bs ≡ width → (z : ℤ) → contentOf bs ≡ Number z → InRange Bound z
+bounds bs l z e = spellable-range z .0 (one-spelling bs z l e .1)

@@ -15,10 +15,10 @@ use Rattle.items.specs.declared.LoopMark.the-variants as mark
 use Rattle.items.specs.declared.Ref.{Ref}
 use Rattle.items.specs.declared.Ref.the-variants as ref
 use Rattle.plan.specs.declared.Case.{Case}
-use Rattle.plan.specs.Cases.{Items, itemsOf, noItem, noLoops}
+use Rattle.plan.specs.Cases.{Items, itemsOf, noItem, noLoops, loopsFrom}
 use Rattle.plan.specs.Taking.{isClosed}
 use Rattle.rules.specs.Rules.{Closed}
-use Rattle.rules.specs.Sound.{Sound, loopsFrom}
+use Rattle.rules.specs.Sound.{Sound}
 use Rattle.rules.specs.Loops.{closed-is}
 use Rattle.integer.specs.Tests.{tells-and, tells-lt, tells-not}
 use Rattle.integer.specs.All.{All, from, gather}

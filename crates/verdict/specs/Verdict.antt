@@ -12,9 +12,8 @@ use Rattle.items.specs.declared.Ref.the-variants as ref
 use Rattle.items.specs.declared.Guard.{Guard}
 use Rattle.items.specs.declared.Form.{Form}
 use Rattle.items.specs.declared.Form.the-variants as form
-use Rattle.plan.specs.Cases.{Items, noItem, noLoops}
+use Rattle.plan.specs.Cases.{Items, noItem, noLoops, loopsFrom}
 use Rattle.plan.specs.Taking.{isClosed}
-use Rattle.rules.specs.Sound.{loopsFrom}
 use Rattle.rules.specs.Files.{size}
 use Rattle.meaning.specs.declared.Judgement.{Judgement}
 use Rattle.meaning.specs.declared.Judgement.the-variants.{Accepted, Unfinished, WrongStart, Unconnected, GuardFails, WrongMark, RootUnmarked}

@@ -5,7 +5,8 @@ use borrow.Author.Needs.{needs}
 use borrow.Author.Tests.{eq-eqb, ne-eqb}
 use lib.ListN.{getD}
 use Rattle.kinds.specs.Kinds.{kindOf}
-use Rattle.faults.specs.Input.{lineFeed, namedHead, endedHead, headOf}
+use Rattle.record.specs.Layout.{lineFeed}
+use Rattle.faults.specs.Input.{namedHead, endedHead, headOf}
 use Rattle.faults.proofs.head_of.Statement.{statement}
 use Rattle.faults.proofs.head_of.Tie as tie
 

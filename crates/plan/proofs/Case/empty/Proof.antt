@@ -1,5 +1,5 @@
 -- The empty case. Assumes nothing.
-use Rattle.plan.specs.Cases.{emptyCase}
+use Rattle.plan.specs.Cases.{loopsFrom, emptyCase}
 use borrow.Author.Needs.{needs}
 use Rattle.plan.proofs.Case.empty.Statement.{statement}
 use Rattle.plan.proofs.Case.empty.Tie as tie
@@ -14,7 +14,7 @@ no-place-requires : tie.Need-no-place-requires
 no-place-requires c κs = search needs
 
 returns : tie.Need-returns
-unfolding emptyCase
+unfolding emptyCase loopsFrom
 returns c = simp (c .before .before .no-guard .ensures, c .before .no-move .ensures, c .no-place .ensures)
 
 pub empty-spec : {M : Type 1} → statement M
