@@ -2,20 +2,21 @@
 use mathlib.Core.List.{List}
 use mathlib.Core.Bool.{cond}
 use Prim.Native.Nat.{ℕ}
-use Rattle.faults.specs.Answers.{numberOf, fieldOf}
-use Rattle.plan.specs.declared.Run.{Run}
-use Rattle.plan.specs.Cases.{emptyCase, itemsOf}
-use Rattle.plan.specs.Taking.{isTaken, runOf}
-use Rattle.meaning.specs.Judged.{Numbers, numbersOf, startOf}
+use Rattle.answers.specs.Answers.{numberOf, fieldOf, isTaken, numbersOf}
+use Rattle.answers.specs.declared.Told.{Told}
+use Rattle.collector.specs.declared.Collected.{Collected}
+use Rattle.collector.specs.Cases.{emptyCase, itemsOf}
+use Rattle.collector.specs.Taking.{collectedOf}
+use Rattle.meaning.specs.Judged.{startOf}
 use Rattle.verdict.specs.Verdict.{verdict}
 
 -- after the records are taken, up to the first that is refused: its result, number and field; where none is, the judgement's numbers
-abbrev pub answerBy : Run → Numbers
-answerBy r =
+abbrev pub answerAfter : Collected → Told
+answerAfter r =
     let x = itemsOf (r .case) in
     cond (isTaken (r .answer)) (numbersOf (verdict x (startOf x)))
     (record { result = numberOf (r .answer); second = r .taken; third = fieldOf (r .answer) })
 
 -- the three numbers of a file
-unfoldable pub answerOf : List ℕ → Numbers
-answerOf bs = answerBy (runOf emptyCase bs)
+unfoldable pub answerOf : List ℕ → Told
+answerOf bs = answerAfter (collectedOf emptyCase bs)

@@ -6,17 +6,19 @@ use Prim.Native.Nat.{ℕ, zero, suc, _+_, _*_, _≤_, _<_}
 use native.Mathlib.Omega.{arith}
 use lib.ListN.{length, take, drop, length-drop}
 use lib.Seq.{take-nil, take-take}
-use Rattle.record.specs.Layout.{recordLength}
-use Rattle.plan.specs.declared.Case.{Case}
-use Rattle.plan.specs.Cases.{emptyCase, itemsOf}
-use Rattle.plan.specs.Taking.{isTaken, takenOf, cutFrom, cut, runFrom, runOf}
-use Rattle.rules.specs.Files.{size}
-use Rattle.rules.specs.Sound.{Sound}
-use Rattle.rules.specs.Held.{sound-is-kept, taken-with}
-use Rattle.rules.specs.Kept.{sound-empty, sound-kept}
-use Rattle.rules.specs.Spelled.{size-more}
-use Rattle.casefile.specs.Answer.{answerBy, answerOf}
-use Rattle.casefile.specs.Listed.{room, within}
+use Rattle.record.specs.Layout.{recordLength, cutFrom, cut}
+use Rattle.collector.specs.declared.Case.{Case}
+use Rattle.collector.specs.Cases.{emptyCase, itemsOf}
+use Rattle.answers.specs.Answers.{isTaken}
+use Rattle.collector.specs.Taking.{takenOf, collectedFrom, collectedOf}
+use Rattle.rules.specs.Files.{itemCount}
+use Rattle.collector.specs.Sound.{Sound}
+use Rattle.rules_laws.specs.Held.{sound-is-kept, taken-with}
+use Rattle.rules_laws.specs.Kept.{sound-empty, sound-kept}
+use Rattle.rules_laws.specs.Spelled.{size-more}
+use Rattle.casefile.specs.Answer.{answerAfter, answerOf}
+use Rattle.meaning.specs.Listed.{room}
+use Rattle.casefile.specs.Listed.{within}
 
 -- the bytes of one record more than a case has room for
 abbrev pub enough : ℕ
@@ -54,8 +56,8 @@ cut-first (suc k) (suc j) (suc n) (suc m) (b ∷ bs) e h l =
 -- ---- the run
 
 -- where there is no room for k records more, no record after them is looked at
-run-first : (k : ℕ) (rs : List (List ℕ)) (c : Case) (m : ℕ) → Sound c → room < size (itemsOf c) + k → runFrom c m (take k rs) ≡ runFrom c m rs
-unfolding runFrom
+run-first : (k : ℕ) (rs : List (List ℕ)) (c : Case) (m : ℕ) → Sound c → room < itemCount (itemsOf c) + k → collectedFrom c m (take k rs) ≡ collectedFrom c m rs
+unfolding collectedFrom
 run-first zero rs c m s h = absurd (omega (arith, within c s))
 run-first (suc k) [] c m s h = refl
 run-first (suc k) (b ∷ rs) c m s h =
@@ -68,7 +70,7 @@ run-first (suc k) (b ∷ rs) c m s h =
 
 -- a file is answered as its first bytes are
 pub bounded : (bs : List ℕ) → answerOf (take enough bs) ≡ answerOf bs
-unfolding answerOf runOf cut
+unfolding answerOf collectedOf cut
 bounded bs =
-    ap (λ rs. answerBy (runFrom emptyCase 0 rs)) (cut-first (suc room) enough (length (take enough bs)) (length bs) bs refl (omega arith) (omega arith))
-    ∙ ap answerBy (run-first (suc room) (cut bs) emptyCase 0 sound-empty (omega arith))
+    ap (λ rs. answerAfter (collectedFrom emptyCase 0 rs)) (cut-first (suc room) enough (length (take enough bs)) (length bs) bs refl (omega arith) (omega arith))
+    ∙ ap answerAfter (run-first (suc room) (cut bs) emptyCase 0 sound-empty (omega arith))

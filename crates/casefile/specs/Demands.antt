@@ -1,16 +1,13 @@
 -- The three demands, each as one theorem: read this first. A file is a list of bytes, and `answerOf` has the three numbers that it is answered. Assumes nothing.
 --
--- One promise ties them to the code: `casefile::answer` (casefile/src/lib.rt), which the program calls, ensures `r ≡ toldOf (answerOf bytes)` for every byte slice.
--- Where demand 1 speaks of the case that is held, it is what `Case::take` and `Case::take_all` hand back (plan/src/lib.rt: `r ≡ takenOf ..`, `r ≡ runOf ..`).
+-- One promise ties them to the code: `casefile::answer` (casefile/src/lib.rt), which the program calls, ensures `r ≡ answerOf bytes` for every byte slice.
+-- Where demand 1 speaks of the case that is held, it is what `Case::take` and `Case::take_all` hand back (collector/src/lib.rt: `r ≡ takenOf ..`, `r ≡ collectedOf ..`).
 --
--- To be read with this file, and only their definitions:
--- results: Listed.antt (`Listed`), Refused.antt (`Refused`, `refusal`), faults/specs/Answers.antt;
--- fields: record/specs/Spell.antt, spelling/specs/Spelled.antt (`ReadAs`), Whole.antt (`bytesAt`);
--- records and cases: plan/specs/Taking.antt (`cut`), plan/specs/Cases.antt, items/specs/Items.antt, rules/specs/Files.antt;
--- rules of taking: rules/specs/Rules.antt, kinds/specs/Table.antt;
--- meaning: meaning/specs, Run.antt, Truth.antt, Judged.antt, Paper.antt, Files.antt, and FilesBetween.antt (`SpellsNumber`).
+-- To be read with this file, small crates of definitions that can be read whole, in this order:
+-- record/specs (Spelling, Layout, Spell), kinds/specs, items/specs, answers/specs/Answers.antt, rules/specs, counters/specs/Sum.antt, laws/specs/All.antt, meaning/specs.
+-- Of the collector only `itemsOf` and `emptyCase` (collector/specs/Cases.antt): what a case holds, and the empty one.
 --
--- Not to be read to believe them: the computation (how `answerOf`, `takenOf`, `runOf`, `verdict` and the field's reader `contentOf` work), and every law.
+-- Not to be read to believe them: the computation (how `answerOf`, `takenOf`, `collectedOf` and `verdict` work), and every crate of laws.
 use mathlib.Core.Path.{_≡_}
 use mathlib.Core.Logic.{_↔_, _⊎_}
 use mathlib.Core.List.{List, [], _++_, map}
@@ -19,29 +16,30 @@ use Prim.Native.Nat.{ℕ, _+_, _*_, _≤_}
 use lib.IntN.{ℤ}
 use lib.Signed.{_≤ℤ_}
 use lib.ListN.{length, getD, take}
-use Rattle.record.specs.Layout.{fields, recordLength, bytesAt}
-use Rattle.spelling.specs.Spelled.{ReadAs}
+use Rattle.record.specs.Layout.{fields, recordLength, bytesAt, cut}
+use Rattle.record.specs.Spell.{IsSpelling, ReadAs}
 use Rattle.kinds.specs.declared.Kind.{Kind}
 use Rattle.kinds.specs.declared.Kind.the-variants as kind
 use Rattle.kinds.specs.Kinds.{letterOf}
-use Rattle.faults.specs.declared.Answer.{Answer}
+use Rattle.answers.specs.declared.Answer.{Answer}
 use Rattle.items.specs.Items.{rowOf}
-use Rattle.plan.specs.declared.Case.{Case}
-use Rattle.plan.specs.Cases.{emptyCase, itemsOf, listOf}
-use Rattle.plan.specs.Taking.{isTaken, takenOf, runOf, cut}
+use Rattle.collector.specs.declared.Case.{Case}
+use Rattle.collector.specs.Cases.{emptyCase, itemsOf}
+use Rattle.items.specs.Lists.{listOf}
+use Rattle.answers.specs.Answers.{isTaken, refusal, numbersOf}
+use Rattle.collector.specs.Taking.{takenOf, collectedOf}
 use Rattle.rules.specs.Rules.{contentAt}
-use Rattle.rules.specs.Files.{rowsOf, spelledBy, spelled}
-use Rattle.rules.specs.Theorems.{refused}
-use Rattle.meaning.specs.declared.Judgement.{Judgement}
-use Rattle.meaning.specs.Judged.{Finished, Judged, numbersOf, startOf}
+use Rattle.rules.specs.Files.{rowsOf, spelledBy, spelled, AllTaken, Refused}
+use Rattle.rules_laws.specs.Theorems.{refused}
+use Rattle.answers.specs.declared.Judgement.{Judgement}
+use Rattle.meaning.specs.Judged.{Finished, Judged, startOf}
 use Rattle.meaning.specs.Paper.{Means}
-use Rattle.meaning.specs.Files.{AllTaken, FileAccepted}
-use Rattle.meaning.specs.Around.{roundsAt}
-use Rattle.meaning.specs.FilesBetween.{SpellsNumber}
-use Rattle.meaning.specs.Theorems.{file-between}
+use Rattle.meaning.specs.Files.{FileAccepted, roundsAt}
+use Rattle.meaning_laws.specs.Theorems.{file-between}
 use Rattle.casefile.specs.Answer.{answerOf}
-use Rattle.casefile.specs.Listed.{Listed, listed}
-use Rattle.casefile.specs.Refused.{Refused, refusal, file-refused, file-ends}
+use Rattle.meaning.specs.Listed.{Listed}
+use Rattle.casefile.specs.Listed.{listed}
+use Rattle.casefile.specs.Refused.{file-refused, file-ends}
 use Rattle.casefile.specs.Whole.{field-read}
 use Rattle.casefile.specs.Taken.{case-is, fields-are, judgement-is, answers-judged, accepts-means, file-accepts, file-means}
 
@@ -64,17 +62,17 @@ pub record Demand1 : Type 0 where
   pub first : (bs : List ℕ) → AllTaken (cut bs) ⊎ ((k : ℕ) × (a : Answer) × Refused [] (cut bs) k a)
   -- where that is refusal a of record k, the numbers are those of a and k, and the case that is held is the one that the records before k spell
   pub stopped : (bs : List ℕ) (k : ℕ) (a : Answer) → Refused [] (cut bs) k a →
-      (answerOf bs ≡ refusal k a) × (itemsOf (runOf emptyCase bs .case) ≡ spelledBy (take k (cut bs)))
+      (answerOf bs ≡ refusal k a) × (itemsOf (collectedOf emptyCase bs .case) ≡ spelledBy (take k (cut bs)))
   -- a field of a record is read by all its seven bytes: blank exactly where they are spaces, a number exactly where they are its spelling, bad where they are neither
   pub read : (b : List ℕ) → length b ≡ recordLength → (f : ℕ) → 1 ≤ f → f ≤ fields → ReadAs (bytesAt b f) (contentAt b f)
   -- and the items of the case have the fields of the records again: no number is cut where it is kept
-  pub again : (bs : List ℕ) → AllTaken (cut bs) → (k : Kind) → map (rowOf k) (listOf k (spelled bs)) ≡ rowsOf k (cut bs)
+  pub kept : (bs : List ℕ) → AllTaken (cut bs) → (k : Kind) → map (rowOf k) (listOf k (spelled bs)) ≡ rowsOf k (cut bs)
   -- a refused record leaves the case as it stood, all of it
   pub refused : (c : Case) (b : List ℕ) → isTaken (takenOf c b .answer) ≡ false → takenOf c b .case ≡ c
   -- a judgement alters nothing by its type: it takes a case and hands back an answer, and no case. What is left to say: the case that is held when all
   -- records are taken is the one that the file spells, and the numbers are those of a judgement of that case
   pub unaltered : (bs : List ℕ) → AllTaken (cut bs) →
-      (itemsOf (runOf emptyCase bs .case) ≡ spelled bs) × ((a : Judgement) × Judged (spelled bs) (startOf (spelled bs)) a × (answerOf bs ≡ numbersOf a))
+      (itemsOf (collectedOf emptyCase bs .case) ≡ spelled bs) × ((a : Judgement) × Judged (spelled bs) (startOf (spelled bs)) a × (answerOf bs ≡ numbersOf a))
 
 pub demand-1 : Demand1
 demand-1 =
@@ -83,7 +81,7 @@ demand-1 =
       first = file-refused;
       stopped = file-ends;
       read = field-read;
-      again = fields-are;
+      kept = fields-are;
       refused = refused;
       unaltered = λ bs h. (case-is bs h, judgement-is bs h);
     }
@@ -106,10 +104,10 @@ accepted-means = file-means
 
 -- "Every number of rounds between two accepted ones is accepted: for three files alike in every byte but the rounds field of one counted loop, spelling
 -- a ≤ b ≤ c, if those with a and c are accepted, so is the one with b. Shown of the meaning in 2 for every such three, and so of the checker."
--- The field is that of record i: byte 58·i is P, and the field begins at byte 58·i + 29.
+-- The field is that of record i: its first byte is P, and the rounds field begins `roundsAt` bytes after it.
 pub demand-3 : (pre post fa fb fc : List ℕ) (i : ℕ) (a b c : ℤ) →
     length pre ≡ recordLength * i + roundsAt → getD pre (recordLength * i) 0 ≡ letterOf kind.Place →
-    SpellsNumber fa a → SpellsNumber fb b → SpellsNumber fc c → a ≤ℤ b → b ≤ℤ c →
+    IsSpelling fa a → IsSpelling fb b → IsSpelling fc c → a ≤ℤ b → b ≤ℤ c →
     (FileAccepted (pre ++ (fa ++ post)) → FileAccepted (pre ++ (fc ++ post)) → FileAccepted (pre ++ (fb ++ post)))
     × (Accepts (pre ++ (fa ++ post)) → Accepts (pre ++ (fc ++ post)) → Accepts (pre ++ (fb ++ post)))
 demand-3 pre post fa fb fc i a b c l p sa sb sc ab bc =

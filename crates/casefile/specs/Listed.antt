@@ -1,6 +1,6 @@
 -- Every file gets one of document 01's results, with its second and third number in range. Assumes nothing.
 use mathlib.Core.Path.{_≡_, refl, _∙_, sym}
-use mathlib.Core.Logic.{⊎-elim}
+use mathlib.Core.Logic.{inl, inr, ⊎-elim}
 use mathlib.Core.List.{List, [], _∷_, List·Memᴰ·append-cases}
 use mathlib.Core.Bool.{Bool, true, false, cond, true≢false}
 use Prim.Native.Nat.{ℕ, zero, suc, _+_, _-_, _≤_, _<_}
@@ -8,75 +8,45 @@ use native.Mathlib.Omega.{arith}
 use native.Mathlib.Decide.{decLt}
 use lib.Dec.{eqb, lit<}
 use lib.ListN.{length}
-use Rattle.integer.specs.Tests.{cond-by}
-use Rattle.integer.specs.All.{All, none, also, from}
-use Rattle.integer.specs.Members.{Has, all-has, has-all, all-map, gather-has, has-below, all-pairs}
-use Rattle.record.specs.Layout.{fields, recordOf}
+use Rattle.laws.specs.Tests.{cond-by}
+use Rattle.laws.specs.All.{All, none, also, from}
+use Rattle.laws.specs.Members.{Has, all-has, has-all, all-map, gather-has, has-below, all-pairs}
+use Rattle.record.specs.Layout.{fields, recordOf, cut}
 use Rattle.kinds.specs.declared.Kind.{Kind}
 use Rattle.kinds.specs.declared.Kind.the-variants as kind
 use Rattle.kinds.specs.declared.Shape.{Shape}
 use Rattle.kinds.specs.Table.{shapeOf}
-use Rattle.faults.specs.declared.Fault.{Fault}
-use Rattle.faults.specs.declared.Fault.the-variants as fault
-use Rattle.faults.specs.declared.Answer.{Answer}
-use Rattle.faults.specs.declared.Answer.the-variants as answer
-use Rattle.faults.specs.Answers.{numberOf, fieldOf}
-use Rattle.faults.specs.Faults.{faultAt}
 use Rattle.items.specs.declared.Ref.{Ref}
 use Rattle.items.specs.declared.Ref.the-variants as ref
-use Rattle.plan.specs.declared.Case.{Case}
-use Rattle.plan.specs.declared.Run.{Run}
-use Rattle.plan.specs.Cases.{Items, listOf, countsOf, roomOf, emptyCase, itemsOf}
-use Rattle.plan.specs.Taking.{isTaken, takenOf, runFrom, runOf, cut}
+use Rattle.items.specs.Lists.{Items, listOf, countsOf, roomOf}
+use Rattle.checks.specs.declared.Fault.{Fault}
+use Rattle.checks.specs.declared.Fault.the-variants as fault
+use Rattle.answers.specs.declared.Answer.{Answer}
+use Rattle.answers.specs.declared.Answer.the-variants as answer
+use Rattle.answers.specs.Answers.{isTaken}
+use Rattle.checks.specs.Faults.{faultAt}
 use Rattle.rules.specs.Rules.{Applies, fieldsOf}
-use Rattle.rules.specs.Tells.{tells-bad, tells-missing, tells-extra, tells-outside, tells-there}
-use Rattle.rules.specs.Files.{size}
-use Rattle.rules.specs.Sound.{Sound}
-use Rattle.rules.specs.Stages.{past-fault}
-use Rattle.rules.specs.Held.{sound-is-kept, counted, taken-with}
-use Rattle.rules.specs.Kept.{sound-empty, sound-kept}
-use Rattle.rules.specs.Spelled.{size-more}
-use Rattle.rules.specs.Theorems.{answers}
-use Rattle.meaning.specs.Run.{Way, placeAt, backOf, moveAt, moveNo, moveOf, guardsOf}
-use Rattle.meaning.specs.Judged.{wayIn, waysInto, waysOf, Test, testsOf, Mark, marksOf, marked, root, stateOf, Numbers, numbersOf, startOf}
-use Rattle.meaning.specs.Lists.{all-grid}
-use Rattle.meaning.specs.Given.{facts}
-use Rattle.verdict.specs.Steps.{in-way, back-way}
+use Rattle.rules.specs.Files.{itemCount}
+use Rattle.collector.specs.declared.Case.{Case}
+use Rattle.collector.specs.declared.Collected.{Collected}
+use Rattle.collector.specs.Cases.{emptyCase, itemsOf}
+use Rattle.collector.specs.Taking.{takenOf, collectedFrom, collectedOf}
+use Rattle.collector.specs.Sound.{Sound}
+use Rattle.rules_laws.specs.Tells.{tells-bad, tells-missing, tells-extra, tells-outside, tells-there}
+use Rattle.rules_laws.specs.Stages.{past-fault}
+use Rattle.rules_laws.specs.Held.{sound-is-kept, counted, taken-with}
+use Rattle.rules_laws.specs.Kept.{sound-empty, sound-kept}
+use Rattle.rules_laws.specs.Spelled.{size-more}
+use Rattle.rules_laws.specs.Theorems.{answers}
+use Rattle.meaning.specs.Run.{Way, placeAt, backOf, moveAt, moveNo, moveBy, guardsOf}
+use Rattle.meaning.specs.Judged.{wayIn, waysInto, waysOf, Test, testsOf, Mark, marksOf, marked, root, stateAt, startOf}
+use Rattle.meaning.specs.Listed.{room, FieldFits, NumbersFit, Listed, refused, judged}
+use Rattle.meaning_laws.specs.Lists.{all-grid}
+use Rattle.meaning_laws.specs.Given.{facts}
 use Rattle.verdict.specs.Verdict as judge
-use Rattle.verdict.specs.Verdict.{Found, nowhere, firstNot, finished, connects, passes, right, verdict}
-use Rattle.casefile.specs.Answer.{answerBy, answerOf}
-
--- how many records a case has room for
-abbrev pub room : ℕ
-room = roomOf kind.State + (roomOf kind.Guard + (roomOf kind.Move + (roomOf kind.Sentence + roomOf kind.Place)))
-
--- the numbers of an answer
-abbrev pub numbers : ℕ → ℕ → ℕ → Numbers
-numbers r s t = record { result = r; second = s; third = t }
-
--- the three numbers are those of one of document 01's results
-pub data Listed : Numbers → Type 0 where
-  -- of a record: its number and the field
-  not-a-record : {n : ℕ} → n ≤ room → Listed (numbers 11 n 0)
-  no-line-feed : {n : ℕ} → n ≤ room → Listed (numbers 12 n 0)
-  no-such-kind : {n : ℕ} → n ≤ room → Listed (numbers 13 n 0)
-  misspelled : {n f : ℕ} → n ≤ room → 1 ≤ f → f ≤ fields → Listed (numbers 14 n f)
-  misfilled : {n f : ℕ} → n ≤ room → 1 ≤ f → f ≤ fields → Listed (numbers 15 n f)
-  out-of-range : {n f : ℕ} → n ≤ room → 1 ≤ f → f ≤ fields → Listed (numbers 16 n f)
-  out-of-order : {n : ℕ} → n ≤ room → Listed (numbers 21 n 0)
-  no-room : {n : ℕ} → n ≤ room → Listed (numbers 22 n 0)
-  not-there : {n f : ℕ} → n ≤ room → 1 ≤ f → f ≤ fields → Listed (numbers 23 n f)
-  after-the-end : {n : ℕ} → n ≤ room → Listed (numbers 25 n 0)
-  misplaced : {n : ℕ} → n ≤ room → Listed (numbers 25 n 4)
-  wrong-way-in : {n : ℕ} → n ≤ room → Listed (numbers 26 n 2)
-  -- of a judgement: the records taken; the place and the move, guard or sentence; the root
-  unfinished : {n : ℕ} → n ≤ room → Listed (numbers 24 n 0)
-  wrong-start : Listed (numbers 31 0 0)
-  unconnected : {p t : ℕ} → p < roomOf kind.Place → t < roomOf kind.Move → Listed (numbers 32 p t)
-  guard-fails : {p g : ℕ} → p < roomOf kind.Place → g < roomOf kind.Guard → Listed (numbers 33 p g)
-  wrong-mark : {p i : ℕ} → p < roomOf kind.Place → i < roomOf kind.Sentence → Listed (numbers 34 p i)
-  root-unmarked : {i : ℕ} → i < roomOf kind.Sentence → Listed (numbers 35 0 i)
-  accepted : Listed (numbers 0 0 0)
+use Rattle.verdict.specs.Verdict.{Found, nowhere, firstNot, finished, connects, passes, markRight, verdict}
+use Rattle.verdict_laws.specs.Steps.{in-way, back-way}
+use Rattle.casefile.specs.Answer.{answerAfter, answerOf}
 
 -- ---- a record
 
@@ -90,30 +60,23 @@ in-record f s bs g e = (
     out : (0 < g → fields < g) → ⊥
     out h = true≢false (sym e ∙ past-fault f s bs g h)
 
--- a refusal of record n that applies is listed
-module _ (x : Items) (bs : List ℕ) (n : ℕ) (h : n ≤ room) where
-  refused : (a : Answer) → Applies x bs a → Listed (numbers (numberOf a) n (fieldOf a))
-  refused answer.Taken w = absurd w
-  refused answer.NotARecord w = not-a-record h
-  refused answer.NoLineFeed w = no-line-feed h
-  refused answer.NoSuchKind w = no-such-kind h
-  refused (answer.Misspelled f) l =
-      let (a, b) = in-record fault.Misspelled (shapeOf kind.State (recordOf bs)) bs f (tells-bad (fieldsOf bs) f .1 (l .holds)) in
-      misspelled h a b
-  refused (answer.Misfilled f) (k, is, form, w) =
-      let (a, b) = ⊎-elim (λ l. in-record fault.Missing (shapeOf k (recordOf bs)) bs f (tells-missing k (fieldsOf bs) f .1 (l .holds)))
-      (λ (full, l). in-record fault.Extra (shapeOf k (recordOf bs)) bs f (tells-extra k (fieldsOf bs) f .1 (l .holds))) w in
-      misfilled h a b
-  refused (answer.OutOfRange f) (k, is, l) =
-      let (a, b) = in-record fault.OutOfRange (shapeOf k (recordOf bs)) bs f (tells-outside k (fieldsOf bs) f .1 (l .holds)) in
-      out-of-range h a b
-  refused answer.OutOfOrder w = out-of-order h
-  refused answer.NoRoom w = no-room h
-  refused (answer.NotThere f) (k, is, l) =
-      let (a, b) = in-record (fault.NotThere (countsOf x)) (shapeOf k (recordOf bs)) bs f (tells-there k (fieldsOf bs) f (countsOf x) .1 (l .holds)) in
-      not-there h a b
-  refused (answer.Misplaced f) (is, w) = ⊎-elim (λ c. rw (c .1) (after-the-end h)) (λ m. rw (m .2) (misplaced h)) w
-  refused answer.WrongWayIn w = wrong-way-in h
+-- a refusal that applies names a field that it may name
+field-fits : (x : Items) (bs : List ℕ) (a : Answer) → Applies x bs a → FieldFits a
+field-fits x bs answer.Taken w = absurd w
+field-fits x bs answer.NotARecord w = tt
+field-fits x bs answer.NoLineFeed w = tt
+field-fits x bs answer.NoSuchKind w = tt
+field-fits x bs (answer.Misspelled f) l = in-record fault.Misspelled (shapeOf kind.State (recordOf bs)) bs f (tells-bad (fieldsOf bs) f .1 (l .holds))
+field-fits x bs (answer.Misfilled f) (k, is, form, w) =
+    ⊎-elim (λ l. in-record fault.Missing (shapeOf k (recordOf bs)) bs f (tells-missing k (fieldsOf bs) f .1 (l .holds)))
+    (λ (full, l). in-record fault.Extra (shapeOf k (recordOf bs)) bs f (tells-extra k (fieldsOf bs) f .1 (l .holds))) w
+field-fits x bs (answer.OutOfRange f) (k, is, l) = in-record fault.OutOfRange (shapeOf k (recordOf bs)) bs f (tells-outside k (fieldsOf bs) f .1 (l .holds))
+field-fits x bs answer.OutOfOrder w = tt
+field-fits x bs answer.NoRoom w = tt
+field-fits x bs (answer.NotThere f) (k, is, l) =
+    in-record (fault.NotThere (countsOf x)) (shapeOf k (recordOf bs)) bs f (tells-there k (fieldsOf bs) f (countsOf x) .1 (l .holds))
+field-fits x bs (answer.Misplaced f) (is, w) = ⊎-elim (λ c. inl (c .1)) (λ m. inr (m .2)) w
+field-fits x bs answer.WrongWayIn w = tt
 
 -- ---- a judgement
 
@@ -140,7 +103,7 @@ module _ (c : Case) (s : Sound c) where
   held : (k : Kind) → length (listOf k x) ≤ roomOf k
   held k = omega (arith, counted c s k, s .room k)
 
-  pub within : size x ≤ room
+  pub within : itemCount x ≤ room
   within = omega (arith, held kind.State, held kind.Guard, held kind.Move, held kind.Sentence, held kind.Place)
 
   -- the place of a way is there
@@ -170,7 +133,7 @@ module _ (c : Case) (s : Sound c) where
       go true = facts c s .backs (w .place) t h
       go false = into (w .place) h
 
-  number-small : (r : Ref) → There r → judge.numberOf r < roomOf kind.Move
+  number-small : (r : Ref) → There r → judge.refNumber r < roomOf kind.Move
   number-small ref.None k = lit< tt
   number-small (ref.At t) k = omega (arith, k t refl, held kind.Move)
 
@@ -181,7 +144,7 @@ module _ (c : Case) (s : Sound c) where
 
   -- what is found is in range
   abbrev WayFits : Way → Type 0
-  WayFits w = (w .place < roomOf kind.Place) × (judge.numberOf (moveNo (x .places) w) < roomOf kind.Move)
+  WayFits w = (w .place < roomOf kind.Place) × (judge.refNumber (moveNo (x .places) w) < roomOf kind.Move)
 
   abbrev TestFits : Test → Type 0
   TestFits t = (t .way .place < roomOf kind.Place) × (t .guard < roomOf kind.Guard)
@@ -197,7 +160,7 @@ module _ (c : Case) (s : Sound c) where
 
   tests-fit : All TestFits (testsOf x)
   tests-fit =
-      all-pairs {C = Test} (λ w g. record { way = w; guard = g }) (λ w. guardsOf (moveOf x w)) (waysOf x) .1
+      all-pairs {C = Test} (λ w g. record { way = w; guard = g }) (λ w. guardsOf (moveBy x w)) (waysOf x) .1
       (λ w g h k.
       let p = way-place w h in
       (omega (arith, held kind.Place), all-has (guards-small (moveNo (x .places) w) (way-move w p)) k))
@@ -206,37 +169,37 @@ module _ (c : Case) (s : Sound c) where
   marks-fit = all-grid (length (x .sentences)) (length (x .places)) .1 (λ i p a b. (omega (arith, held kind.Place), omega (arith, held kind.Sentence)))
 
   by-tests : (f s r : Bool) {w : Found Way} {t : Found Test} {k : Found Mark} → Of WayFits w → Of TestFits t → Of MarkFits k →
-      Listed (numbersOf (judge.answerBy x f s w t k r))
-  by-tests false s r a b d = unfinished within
-  by-tests true false r a b d = wrong-start
-  by-tests true true r (one a) b d = unconnected (a .0) (a .1)
-  by-tests true true r no-one (one b) d = guard-fails (b .0) (b .1)
-  by-tests true true r no-one no-one (one d) = wrong-mark (d .0) (d .1)
-  by-tests true true false no-one no-one no-one = root-unmarked {i = root x} (omega (arith, held kind.Sentence))
-  by-tests true true true no-one no-one no-one = accepted
+      NumbersFit (judge.judgementBy x f s w t k r)
+  by-tests false s r a b d = within
+  by-tests true false r a b d = tt
+  by-tests true true r (one a) b d = a
+  by-tests true true r no-one (one b) d = b
+  by-tests true true r no-one no-one (one d) = d
+  by-tests true true false no-one no-one no-one = omega (arith, held kind.Sentence)
+  by-tests true true true no-one no-one no-one = tt
 
   -- the answer of a judgement is listed
-  judged : Listed (numbersOf (verdict x (startOf x)))
+  verdict-fits : NumbersFit (verdict x (startOf x))
   unfolding verdict
-  judged =
-      by-tests (finished x) (eqb (stateOf x 0) 0) (marked x (root x) 0)
-      (found (connects x) ways-fit) (found (passes x (startOf x)) tests-fit) (found (right x (startOf x)) marks-fit)
+  verdict-fits =
+      by-tests (finished x) (eqb (stateAt x 0) 0) (marked x (root x) 0)
+      (found (connects x) ways-fit) (found (passes x (startOf x)) tests-fit) (found (markRight x (startOf x)) marks-fit)
 
 -- ---- a file
 
 -- the answer to a run over records rs, where the case c holds the m records taken before
-from-here : (rs : List (List ℕ)) (c : Case) (m : ℕ) → Sound c → m ≡ size (itemsOf c) → Listed (answerBy (runFrom c m rs))
-unfolding runFrom
-from-here [] c m s e = judged c s
+from-here : (rs : List (List ℕ)) (c : Case) (m : ℕ) → Sound c → m ≡ itemCount (itemsOf c) → Listed (answerAfter (collectedFrom c m rs))
+unfolding collectedFrom
+from-here [] c m s e = judged (verdict (itemsOf c) (startOf (itemsOf c))) (verdict-fits c s)
 from-here (b ∷ rs) c m s e =
     let t = takenOf c b in
-    cond-by (λ (r : Run). Listed (answerBy r)) (isTaken (t .answer)) {x = runFrom (t .case) (m + 1) rs} {y = record { case = t .case; answer = t .answer; taken = m }}
+    cond-by (λ (r : Collected). Listed (answerAfter r)) (isTaken (t .answer)) {x = collectedFrom (t .case) (m + 1) rs} {y = record { case = t .case; answer = t .answer; taken = m }}
     (λ h. from-here rs (t .case) (m + 1) (sound-kept c b s) (omega (arith, size-more c b rs (taken-with c b h) (sound-is-kept s))))
     (λ h. rw h
-    (⊎-elim (λ k. absurd (true≢false (sym (k .0) ∙ h))) (λ k. refused (itemsOf c) b m (omega (arith, within c s)) (t .answer) (k .applies))
+    (⊎-elim (λ k. absurd (true≢false (sym (k .0) ∙ h))) (λ k. refused m (t .answer) (omega (arith, within c s)) (field-fits (itemsOf c) b (t .answer) (k .applies)))
     (answers c b s)))
 
 -- every file gets one of the listed results
 pub listed : (bs : List ℕ) → Listed (answerOf bs)
-unfolding answerOf runOf
+unfolding answerOf collectedOf
 listed bs = from-here (cut bs) emptyCase 0 sound-empty (unfold emptyCase in refl)

@@ -6,36 +6,25 @@ use mathlib.Core.List.{List, [], _∷_, _++_, append-nil}
 use mathlib.Core.Bool.{Bool, true, false, true≢false}
 use Prim.Native.Nat.{ℕ, zero, suc, _+_, _<_}
 use native.Mathlib.Omega.{arith}
-use lib.ListN.{length, getD, take}
+use lib.ListN.{getD, take}
 use lib.Seq.{append-snoc}
-use Rattle.integer.specs.Tests.{cond-by}
-use Rattle.faults.specs.declared.Answer.{Answer}
-use Rattle.faults.specs.Answers.{numberOf, fieldOf}
-use Rattle.plan.specs.declared.Case.{Case}
-use Rattle.plan.specs.declared.Run.{Run}
-use Rattle.plan.specs.Cases.{emptyCase, itemsOf}
-use Rattle.plan.specs.Taking.{isTaken, takenOf, runFrom, runOf, cut}
+use Rattle.laws.specs.Tests.{cond-by}
+use Rattle.record.specs.Layout.{cut}
+use Rattle.answers.specs.declared.Answer.{Answer}
+use Rattle.answers.specs.Answers.{isTaken, refusal}
 use Rattle.rules.specs.Rules.{Applies, IsFirst}
-use Rattle.rules.specs.Files.{rowsOf, spelledBy}
-use Rattle.rules.specs.Sound.{Sound}
-use Rattle.rules.specs.Stages.{refuses}
-use Rattle.rules.specs.Kept.{sound-empty, sound-kept}
-use Rattle.rules.specs.First.{first-one}
-use Rattle.rules.specs.Theorems.{answers, refused}
-use Rattle.meaning.specs.Judged.{Numbers}
-use Rattle.meaning.specs.Files.{AllTaken}
-use Rattle.meaning.specs.AllTaken.{spelled-more, all-taken}
+use Rattle.rules.specs.Files.{rowsOf, spelledBy, AllTaken, Refused}
+use Rattle.collector.specs.declared.Case.{Case}
+use Rattle.collector.specs.declared.Collected.{Collected}
+use Rattle.collector.specs.Cases.{emptyCase, itemsOf}
+use Rattle.collector.specs.Taking.{takenOf, collectedFrom, collectedOf}
+use Rattle.collector.specs.Sound.{Sound}
+use Rattle.rules_laws.specs.Stages.{refuses}
+use Rattle.rules_laws.specs.Kept.{sound-empty, sound-kept}
+use Rattle.rules_laws.specs.First.{first-one}
+use Rattle.rules_laws.specs.Theorems.{answers, refused}
+use Rattle.meaning_laws.specs.AllTaken.{spelled-more, all-taken}
 use Rattle.casefile.specs.Answer.{answerOf}
-
--- of the records rs that come after the records ps, record k is the first to which a refusal applies, and a is the first that does
-pub record Refused (ps rs : List (List ℕ)) (k : ℕ) (a : Answer) : Type 0 where
-  pub there : k < length rs
-  pub before : (j : ℕ) → j < k → (b : Answer) → Applies (spelledBy (ps ++ take j rs)) (getD rs j []) b → ⊥
-  pub first : IsFirst (spelledBy (ps ++ take k rs)) (getD rs k []) a
-
--- the numbers of a refusal: its result, the record and the field
-abbrev pub refusal : ℕ → Answer → Numbers
-refusal k a = record { result = numberOf a; second = k; third = fieldOf a }
 
 module _ (ps rs : List (List ℕ)) (b : List ℕ) where
   -- record b is taken, and a later one refused
@@ -70,17 +59,17 @@ one-refusal {ps} {rs} {k} {j} {a} {b} r q =
     neither-less l g = omega arith
 
 -- a run over records that ends with a refusal: what it tells, and the case that it leaves
-stops : (rs ps : List (List ℕ)) (c : Case) (m : ℕ) → Sound c → itemsOf c ≡ spelledBy ps → isTaken (runFrom c m rs .answer) ≡ false →
-    (k : ℕ) × Refused ps rs k (runFrom c m rs .answer) × (runFrom c m rs .taken ≡ m + k) × (itemsOf (runFrom c m rs .case) ≡ spelledBy (ps ++ take k rs))
-unfolding runFrom
+stops : (rs ps : List (List ℕ)) (c : Case) (m : ℕ) → Sound c → itemsOf c ≡ spelledBy ps → isTaken (collectedFrom c m rs .answer) ≡ false →
+    (k : ℕ) × Refused ps rs k (collectedFrom c m rs .answer) × (collectedFrom c m rs .taken ≡ m + k) × (itemsOf (collectedFrom c m rs .case) ≡ spelledBy (ps ++ take k rs))
+unfolding collectedFrom
 stops [] ps c m s e = λ h. absurd (true≢false h)
 stops (b ∷ rs) ps c m s e =
     let t = takenOf c b in
     let by = subst (λ x. ((isTaken (t .answer) ≡ true) × ((a : Answer) → Applies x b a → ⊥)) ⊎ IsFirst x b (t .answer)) e (answers c b s) in
     cond-by
-    (λ (r : Run). isTaken (r .answer) ≡ false →
+    (λ (r : Collected). isTaken (r .answer) ≡ false →
     (k : ℕ) × Refused ps (b ∷ rs) k (r .answer) × (r .taken ≡ m + k) × (itemsOf (r .case) ≡ spelledBy (ps ++ take k (b ∷ rs))))
-    (isTaken (t .answer)) {x = runFrom (t .case) (m + 1) rs} {y = record { case = t .case; answer = t .answer; taken = m }}
+    (isTaken (t .answer)) {x = collectedFrom (t .case) (m + 1) rs} {y = record { case = t .case; answer = t .answer; taken = m }}
     (λ w h.
     let (k, r, n, l) = stops rs (ps ++ (b ∷ [])) (t .case) (m + 1) (sound-kept c b s) (spelled-more c ps b s e w) h in
     let none = ⊎-elim (λ y. y .1) (λ f. absurd (true≢false (sym w ∙ refuses (spelledBy ps) b (t .answer) (f .applies)))) by in
@@ -94,18 +83,18 @@ stops (b ∷ rs) ps c m s e =
 
 -- the numbers of a file of which record k is refused, and the case that is held: the one that the records before it spell
 abbrev pub Ends : List ℕ → ℕ → Answer → Type 0
-Ends bs k a = (answerOf bs ≡ refusal k a) × (itemsOf (runOf emptyCase bs .case) ≡ spelledBy (take k (cut bs)))
+Ends bs k a = (answerOf bs ≡ refusal k a) × (itemsOf (collectedOf emptyCase bs .case) ≡ spelledBy (take k (cut bs)))
 
 ends : (bs : List ℕ) → AllTaken (cut bs) ⊎ ((k : ℕ) × (a : Answer) × Refused [] (cut bs) k a × Ends bs k a)
-unfolding answerOf runOf emptyCase rowsOf
-ends bs = go (isTaken (runOf emptyCase bs .answer)) refl
+unfolding answerOf collectedOf emptyCase rowsOf
+ends bs = go (isTaken (collectedOf emptyCase bs .answer)) refl
   where
-    go : (t : Bool) → isTaken (runOf emptyCase bs .answer) ≡ t → AllTaken (cut bs) ⊎ ((k : ℕ) × (a : Answer) × Refused [] (cut bs) k a × Ends bs k a)
+    go : (t : Bool) → isTaken (collectedOf emptyCase bs .answer) ≡ t → AllTaken (cut bs) ⊎ ((k : ℕ) × (a : Answer) × Refused [] (cut bs) k a × Ends bs k a)
     go true e = inl (all-taken bs .1 e)
     go false e =
         let (k, r, n, l) = stops (cut bs) [] emptyCase 0 sound-empty refl e in
-        let m : runOf emptyCase bs .taken ≡ k = omega (arith, n) in
-        inr (k, runOf emptyCase bs .answer, r, (rw e (ap (λ i. refusal i (runOf emptyCase bs .answer)) m), l))
+        let m : collectedOf emptyCase bs .taken ≡ k = omega (arith, n) in
+        inr (k, collectedOf emptyCase bs .answer, r, (rw e (ap (λ i. refusal i (collectedOf emptyCase bs .answer)) m), l))
 
 -- all records of a file are taken, or there is a first that is refused
 pub file-refused : (bs : List ℕ) → AllTaken (cut bs) ⊎ ((k : ℕ) × (a : Answer) × Refused [] (cut bs) k a)

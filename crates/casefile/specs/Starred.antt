@@ -8,7 +8,7 @@ use Prim.Native.Char.{code}
 use lib.ListN.{take, set}
 use Rattle.record.specs.Spelling.{contentOf, negative, alone, leading, digits}
 use Rattle.record.specs.Spell.{lastDigits, numeral}
-use Rattle.record.specs.Layout.{fieldAt, recordOf}
+use Rattle.record.specs.Layout.{fieldAt, recordOf, cutFrom, cut}
 use Rattle.kinds.specs.Kinds.{kindOf}
 use Rattle.kinds.specs.Table.{shapeOf, ruleAt}
 use Rattle.counters.specs.Sum.{sum}
@@ -16,20 +16,20 @@ use Rattle.items.specs.Items.{perCounter, stateOf, guardOf, moveOf, formOf, sen
 use Rattle.meaning.specs.Run.{moveAt}
 use Rattle.meaning.specs.Truth.{bit}
 use Rattle.meaning.specs.Judged.{startOf}
-use Rattle.meaning.specs.Labels.{weightOf}
+use Rattle.verdict.specs.Labels.{weightOf}
 use Rattle.verdict.specs.Rounds.{firstOf, through}
 use Rattle.verdict.specs.Forward.{ways, drift, base}
-use Rattle.verdict.specs.Best.{greater, step, chain, whole, power, limit, front}
+use Rattle.verdict.specs.Best.{greater, step, chain, wholeSum, power, limit, front}
 use Rattle.verdict.specs.Verdict.{formThrough, firstNot, verdict}
-use Rattle.integer.specs.Lowest.{lowest}
-use Rattle.integer.specs.Tab.{tab}
-use Rattle.integer.specs.All.{from, gather}
-use Rattle.faults.specs.Faults.{lowestFault}
-use Rattle.faults.specs.Input.{rangeAnswer, extraAnswer, missingAnswer, formAnswer, fieldsAnswer, endedHead, headOf}
-use Rattle.plan.specs.Cases.{emptyCase, loopsFrom}
-use Rattle.plan.specs.Taking.{wayAnswer, markAnswer, placeAnswer, thereAnswer, roomAnswer, orderAnswer, takenAs, takenOf, cutFrom, cut, runFrom, runOf}
-use Rattle.plan.specs.Taking as taking
-use Rattle.line.specs.Line.{lineOf}
+use Rattle.laws.specs.Lowest.{lowest}
+use Rattle.laws.specs.Tab.{tab}
+use Rattle.laws.specs.All.{from, gather}
+use Rattle.checks.specs.Faults.{lowestFault}
+use Rattle.checks.specs.Input.{rangeAnswer, extraAnswer, missingAnswer, formAnswer, fieldsAnswer, endedHead, headOf}
+use Rattle.collector.specs.Cases.{emptyCase, loopsFrom}
+use Rattle.collector.specs.Taking.{wayAnswer, markAnswer, placeAnswer, thereAnswer, roomAnswer, orderAnswer, takenAs, takenOf, collectedFrom, collectedOf}
+use Rattle.collector.specs.Taking as taking
+use Rattle.output.specs.Line.{lineOf}
 use Rattle.casefile.specs.Answer.{answerOf}
 
 -- the bytes of lines of text
@@ -101,5 +101,5 @@ starred =
     ∷ []
 
 pub starred-lines : answered starred ≡ expected starred
-unfolding starred rootGone changed twelveRounds bytesOf lowest contentOf negative alone leading digits lastDigits numeral fieldAt recordOf kindOf shapeOf ruleAt lowestFault rangeAnswer extraAnswer missingAnswer formAnswer fieldsAnswer endedHead headOf perCounter stateOf guardOf moveOf formOf sentenceOf markOf placeOf emptyCase wayAnswer markAnswer placeAnswer thereAnswer roomAnswer orderAnswer taking.answerOf takenAs takenOf cutFrom cut runFrom runOf loopsFrom moveAt sum bit weightOf from gather startOf firstOf through ways drift base greater step chain whole power limit front formThrough firstNot verdict lineOf answerOf
+unfolding starred rootGone changed twelveRounds bytesOf lowest contentOf negative alone leading digits lastDigits numeral fieldAt recordOf kindOf shapeOf ruleAt lowestFault rangeAnswer extraAnswer missingAnswer formAnswer fieldsAnswer endedHead headOf perCounter stateOf guardOf moveOf formOf sentenceOf markOf placeOf emptyCase wayAnswer markAnswer placeAnswer thereAnswer roomAnswer orderAnswer taking.recordAnswer takenAs takenOf cutFrom cut collectedFrom collectedOf loopsFrom moveAt sum bit weightOf from gather startOf firstOf through ways drift base greater step chain wholeSum power limit front formThrough firstNot verdict lineOf answerOf
 starred-lines = refl

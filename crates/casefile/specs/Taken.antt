@@ -8,29 +8,32 @@ use Prim.Native.Nat.{ℕ}
 use lib.Dec.{eqb}
 use borrow.Author.Tests.{eq-eqb}
 use Rattle.kinds.specs.declared.Kind.{Kind}
-use Rattle.counters.specs.Sum.{Counters}
+use Rattle.counters.specs.Sum.{Valuation}
 use Rattle.items.specs.Items.{rowOf}
-use Rattle.faults.specs.Answers.{numberOf}
-use Rattle.plan.specs.Cases.{Items, emptyCase, itemsOf, listOf}
-use Rattle.plan.specs.Taking.{isTaken, runOf, cut}
-use Rattle.rules.specs.Files.{rowsOf, spelled}
-use Rattle.rules.specs.Stages.{refuses}
-use Rattle.rules.specs.Theorems.{sound, spelled-case}
-use Rattle.meaning.specs.declared.Judgement.{Judgement}
-use Rattle.meaning.specs.declared.Judgement.the-variants.{Accepted, Unfinished, WrongStart, Unconnected, GuardFails, WrongMark, RootUnmarked}
-use Rattle.meaning.specs.Judged.{Finished, IsAccepted, Judged, Numbers, numbersOf, startOf}
+use Rattle.answers.specs.Answers.{numberOf, isTaken, numbersOf}
+use Rattle.answers.specs.declared.Told.{Told}
+use Rattle.items.specs.Lists.{Items, listOf}
+use Rattle.collector.specs.Cases.{emptyCase, itemsOf}
+use Rattle.collector.specs.Taking.{collectedOf}
+use Rattle.record.specs.Layout.{cut}
+use Rattle.rules.specs.Files.{rowsOf, spelled, AllTaken}
+use Rattle.rules_laws.specs.Stages.{refuses}
+use Rattle.rules_laws.specs.Theorems.{sound, spelled-case}
+use Rattle.answers.specs.declared.Judgement.{Judgement}
+use Rattle.answers.specs.declared.Judgement.the-variants.{Accepted, Unfinished, WrongStart, Unconnected, GuardFails, WrongMark, RootUnmarked}
+use Rattle.meaning.specs.Judged.{Finished, IsAccepted, Judged, startOf}
 use Rattle.meaning.specs.Paper.{Means}
-use Rattle.meaning.specs.Files.{AllTaken, FileAccepted}
-use Rattle.meaning.specs.Theorems.{one-answer, zero-accepts, means, all-taken}
+use Rattle.meaning.specs.Files.{FileAccepted}
+use Rattle.meaning_laws.specs.Theorems.{one-answer, zero-accepts, means, all-taken}
 use Rattle.verdict.specs.Verdict.{verdict}
-use Rattle.verdict.specs.Theorems.{judged}
+use Rattle.verdict_laws.specs.Theorems.{judged}
 use Rattle.casefile.specs.Answer.{answerOf}
 use Rattle.casefile.specs.Refused.{file-refused, file-ends}
 
 -- ---- a file whose records are all taken
 
 -- an answer by its numbers
-abbrev judgementOf : Numbers → Judgement
+abbrev judgementOf : Told → Judgement
 judgementOf n =
     cond (eqb (n .result) 24) (Unfinished (n .second))
     (cond (eqb (n .result) 31) WrongStart
@@ -49,11 +52,11 @@ numbered (RootUnmarked r) = refl
 numbered Accepted = refl
 
 module _ (bs : List ℕ) (h : AllTaken (cut bs)) where
-  ended : isTaken (runOf emptyCase bs .answer) ≡ true
+  ended : isTaken (collectedOf emptyCase bs .answer) ≡ true
   ended = all-taken bs .0 h
 
   -- its case is the one that it spells
-  pub case-is : itemsOf (runOf emptyCase bs .case) ≡ spelled bs
+  pub case-is : itemsOf (collectedOf emptyCase bs .case) ≡ spelled bs
   case-is = spelled-case bs ended .items
 
   -- the fields of its items are its records' fields again
@@ -64,7 +67,7 @@ module _ (bs : List ℕ) (h : AllTaken (cut bs)) where
   abbrev x : Items
   x = spelled bs
 
-  abbrev θ : Counters
+  abbrev θ : Valuation
   θ = startOf x
 
   abbrev judgement : Judgement
@@ -76,7 +79,7 @@ module _ (bs : List ℕ) (h : AllTaken (cut bs)) where
   answer-is = rw ended (ap (λ y. numbersOf (verdict y (startOf y))) case-is)
 
   judged-is : Judged x θ judgement
-  judged-is = subst (λ y. Judged y (startOf y) (verdict y (startOf y))) case-is (judged (runOf emptyCase bs .case) (sound bs) _)
+  judged-is = subst (λ y. Judged y (startOf y) (verdict y (startOf y))) case-is (judged (collectedOf emptyCase bs .case) (sound bs) _)
 
   -- which is one of the meaning
   pub judgement-is : (a : Judgement) × Judged x θ a × (answerOf bs ≡ numbersOf a)
@@ -95,7 +98,7 @@ module _ (bs : List ℕ) (h : AllTaken (cut bs)) where
   -- the case is accepted exactly where demand 2 says so
   taken-means : Finished x → IsAccepted x θ ↔ Means x θ
   taken-means =
-      subst (λ y. Finished y → IsAccepted y (startOf y) ↔ Means y (startOf y)) case-is (λ o. means (runOf emptyCase bs .case) (sound bs) o _)
+      subst (λ y. Finished y → IsAccepted y (startOf y) ↔ Means y (startOf y)) case-is (λ o. means (collectedOf emptyCase bs .case) (sound bs) o _)
 
   -- and so is the result 0
   pub accepts-means : Finished x → (answerOf bs .result ≡ 0) ↔ Means x θ

@@ -4,9 +4,10 @@ use mathlib.Core.List.{List}
 use Prim.Native.Nat.{ℕ, zero, suc, _+_, _*_, _≤_}
 use native.Mathlib.Omega.{arith}
 use lib.ListN.{length, drop, length-take, length-drop}
-use Rattle.integer.specs.Tab.{at-tab}
+use Rattle.laws.specs.Tab.{at-tab}
 use Rattle.record.specs.Layout.{width, fields, recordLength, bytesAt, fieldAt, recordOf}
-use Rattle.spelling.specs.Spelled.{ReadAs, read-as}
+use Rattle.record.specs.Spell.{ReadAs}
+use Rattle.record_laws.specs.Spelled.{read-as}
 use Rattle.rules.specs.Rules.{contentAt}
 
 -- a field says what all its bytes say

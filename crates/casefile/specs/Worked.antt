@@ -9,57 +9,58 @@ use Prim.Native.String.{String}
 use lib.IntN.{ℤ, pos}
 use lib.ListN.{take, set}
 use Rattle.record.specs.Spelling.{contentOf, negative, alone, leading, digits}
-use Rattle.record.specs.Layout.{fieldAt, recordOf}
+use Rattle.record.specs.Layout.{fieldAt, recordOf, cutFrom, cut}
 use Rattle.kinds.specs.Kinds.{kindOf}
 use Rattle.kinds.specs.Table.{shapeOf, ruleAt}
 use Rattle.counters.specs.Sum.{sum}
 use Rattle.items.specs.Items.{perCounter, stateOf, guardOf, moveOf, formOf, sentenceOf, markOf, placeOf}
-use Rattle.rules.specs.Files.{rowsOf, spelled}
-use Rattle.meaning.specs.declared.Judgement.{Judgement}
-use Rattle.meaning.specs.Run.{Spot, Way, next, spot, taken, moveAt, counters}
+use Rattle.rules.specs.Files.{rowsOf, spelled, AllTaken, Refused}
+use Rattle.answers.specs.declared.Judgement.{Judgement}
+use Rattle.meaning.specs.Run.{Spot, Way, next, spot, wayTaken, moveAt, countersAt}
 use Rattle.meaning.specs.Truth.{bit}
-use Rattle.meaning.specs.Judged.{Judged, Numbers, numbersOf, startOf}
-use Rattle.meaning.specs.Files.{AllTaken}
-use Rattle.meaning.specs.Walk.{at}
-use Rattle.meaning.specs.Labels.{weightOf}
+use Rattle.meaning.specs.Judged.{Judged, startOf}
+use Rattle.answers.specs.declared.Told.{Told}
+use Rattle.answers.specs.Answers.{numbers, numbersOf, refusal}
+use Rattle.meaning_laws.specs.Walk.{at}
+use Rattle.verdict.specs.Labels.{weightOf}
 use Rattle.verdict.specs.Rounds.{firstOf, through}
 use Rattle.verdict.specs.Forward.{ways, drift, base}
-use Rattle.verdict.specs.Best.{greater, step, chain, whole, power, limit, front}
+use Rattle.verdict.specs.Best.{greater, step, chain, wholeSum, power, limit, front}
 use Rattle.verdict.specs.Verdict.{formThrough, firstNot, verdict}
-use Rattle.faults.specs.declared.Answer.{Answer}
-use Rattle.integer.specs.Lowest.{lowest}
-use Rattle.integer.specs.All.{none, All, also, from, gather}
-use Rattle.faults.specs.Faults.{lowestFault}
-use Rattle.faults.specs.Input.{rangeAnswer, extraAnswer, missingAnswer, formAnswer, fieldsAnswer, endedHead, headOf}
-use Rattle.plan.specs.Cases.{Items, emptyCase, loopsFrom}
-use Rattle.plan.specs.Taking.{wayAnswer, markAnswer, placeAnswer, thereAnswer, roomAnswer, orderAnswer, takenAs, takenOf, cutFrom, cut, runFrom, runOf}
-use Rattle.plan.specs.Taking as taking
+use Rattle.answers.specs.declared.Answer.{Answer}
+use Rattle.laws.specs.Lowest.{lowest}
+use Rattle.laws.specs.All.{none, All, also, from, gather}
+use Rattle.checks.specs.Faults.{lowestFault}
+use Rattle.checks.specs.Input.{rangeAnswer, extraAnswer, missingAnswer, formAnswer, fieldsAnswer, endedHead, headOf}
+use Rattle.items.specs.Lists.{Items}
+use Rattle.collector.specs.Cases.{emptyCase, loopsFrom}
+use Rattle.collector.specs.Taking.{wayAnswer, markAnswer, placeAnswer, thereAnswer, roomAnswer, orderAnswer, takenAs, takenOf, collectedFrom, collectedOf}
+use Rattle.collector.specs.Taking as taking
 use Rattle.casefile.specs.Answer.{answerOf}
-use Rattle.casefile.specs.Listed.{numbers}
-use Rattle.casefile.specs.Refused.{Refused, refusal, file-refused, file-ends}
+use Rattle.casefile.specs.Refused.{file-refused, file-ends}
 use Rattle.casefile.specs.Taken.{judgement-is}
 use Rattle.casefile.specs.Starred.{bytesOf, twelveRounds, changed}
 
 -- ---- what the meaning says of a file
 
 -- the numbers of the first refusal of the first record to which one applies, or, where all records are taken, of the answer that its case is judged
-pub data Says (bs : List ℕ) : Numbers → Type 0 where
-  refused : (k : ℕ) (a : Answer) → Refused [] (cut bs) k a → Says bs (refusal k a)
-  judged : (a : Judgement) → AllTaken (cut bs) → Judged (spelled bs) (startOf (spelled bs)) a → Says bs (numbersOf a)
+pub data FileSays (bs : List ℕ) : Told → Type 0 where
+  refused : (k : ℕ) (a : Answer) → Refused [] (cut bs) k a → FileSays bs (refusal k a)
+  judged : (a : Judgement) → AllTaken (cut bs) → Judged (spelled bs) (startOf (spelled bs)) a → FileSays bs (numbersOf a)
 
 -- what a file is answered is what the meaning says of it
-pub says : (bs : List ℕ) → Says bs (answerOf bs)
+pub says : (bs : List ℕ) → FileSays bs (answerOf bs)
 says bs =
     ⊎-elim
-    (λ t. let (a, j, e) = judgement-is bs t in subst (Says bs) (sym e) (judged a t j))
-    (λ (k, a, r). subst (Says bs) (sym (file-ends bs k a r .0)) (refused k a r))
+    (λ t. let (a, j, e) = judgement-is bs t in subst (FileSays bs) (sym e) (judged a t j))
+    (λ (k, a, r). subst (FileSays bs) (sym (file-ends bs k a r .0)) (refused k a r))
     (file-refused bs)
 
 -- ---- the table
 
 -- a file, and its three numbers
 abbrev pub Worked : Type 0
-Worked = List String × Numbers
+Worked = List String × Told
 
 -- document 01's sum with 4 rounds: place 0 in the loop, place 1 outside any loop, place 2 for ever; the last sentence is the until, marked nowhere
 unfoldable pub fourRounds : List String
@@ -192,19 +193,19 @@ worked =
     ∷ []
 
 worked-answers : map (λ (r : Worked). answerOf (bytesOf (r .0))) worked ≡ map (λ (r : Worked). r .1) worked
-unfolding worked fourRounds rising looped both changed twelveRounds bytesOf lowest contentOf negative alone leading digits fieldAt recordOf kindOf shapeOf ruleAt lowestFault rangeAnswer extraAnswer missingAnswer formAnswer fieldsAnswer endedHead headOf perCounter stateOf guardOf moveOf formOf sentenceOf markOf placeOf emptyCase wayAnswer markAnswer placeAnswer thereAnswer roomAnswer orderAnswer taking.answerOf takenAs takenOf cutFrom cut runFrom runOf loopsFrom moveAt sum bit weightOf from gather startOf firstOf through ways drift base greater step chain whole power limit front formThrough firstNot verdict answerOf
+unfolding worked fourRounds rising looped both changed twelveRounds bytesOf lowest contentOf negative alone leading digits fieldAt recordOf kindOf shapeOf ruleAt lowestFault rangeAnswer extraAnswer missingAnswer formAnswer fieldsAnswer endedHead headOf perCounter stateOf guardOf moveOf formOf sentenceOf markOf placeOf emptyCase wayAnswer markAnswer placeAnswer thereAnswer roomAnswer orderAnswer taking.recordAnswer takenAs takenOf cutFrom cut collectedFrom collectedOf loopsFrom moveAt sum bit weightOf from gather startOf firstOf through ways drift base greater step chain wholeSum power limit front formThrough firstNot verdict answerOf
 worked-answers = refl
 
 -- the meaning says of each file what the table gives
-pub worked-said : All (λ (r : Worked). Says (bytesOf (r .0)) (r .1)) worked
+pub worked-said : All (λ (r : Worked). FileSays (bytesOf (r .0)) (r .1)) worked
 worked-said = each worked worked-answers
   where
     each : (rows : List Worked) → map (λ (r : Worked). answerOf (bytesOf (r .0))) rows ≡ map (λ (r : Worked). r .1) rows →
-        All (λ (r : Worked). Says (bytesOf (r .0)) (r .1)) rows
+        All (λ (r : Worked). FileSays (bytesOf (r .0)) (r .1)) rows
     each [] e = none
     each (r ∷ rows) e =
         let h : answerOf (bytesOf (r .0)) ≡ r .1 = cc in
-        also (subst (Says (bytesOf (r .0))) h (says (bytesOf (r .0)))) (each rows cc)
+        also (subst (FileSays (bytesOf (r .0))) h (says (bytesOf (r .0)))) (each rows cc)
 
 -- ---- the run of the example of twelve rounds
 
@@ -217,7 +218,7 @@ abbrev way : ℕ → Bool → Way
 way p b = record { place = p; back = b }
 
 -- at some moments: where it is, by which way it goes on, and what counter 0 is. The counted loop's last moment is in round 11, counted from 0
-pub twelve-run : map {B = Spot × Way × ℤ} (λ m. (spot (twelve .places) m, taken (twelve .places) m, counters twelve (startOf twelve) m 0)) (0 ∷ 1 ∷ 2 ∷ 22 ∷ 23 ∷ 24 ∷ 25 ∷ 26 ∷ [])
+pub twelve-run : map {B = Spot × Way × ℤ} (λ m. (spot (twelve .places) m, wayTaken (twelve .places) m, countersAt twelve (startOf twelve) m 0)) (0 ∷ 1 ∷ 2 ∷ 22 ∷ 23 ∷ 24 ∷ 25 ∷ 26 ∷ [])
     ≡ (at 0 0 0, way 1 false, pos 0)
     ∷ (at 0 1 0, way 0 true, pos 1250)
     ∷ (at 0 0 1, way 1 false, pos 0)
@@ -227,5 +228,5 @@ pub twelve-run : map {B = Spot × Way × ℤ} (λ m. (spot (twelve .places) m, t
     ∷ (at 2 1 0, way 2 true, pos 1250)
     ∷ (at 2 0 1, way 3 false, pos 0)
     ∷ []
-unfolding twelveRounds bytesOf cutFrom cut rowsOf contentOf negative alone leading digits fieldAt recordOf perCounter stateOf guardOf moveOf formOf sentenceOf markOf placeOf startOf spot next counters moveAt
+unfolding twelveRounds bytesOf cutFrom cut rowsOf contentOf negative alone leading digits fieldAt recordOf perCounter stateOf guardOf moveOf formOf sentenceOf markOf placeOf startOf spot next countersAt moveAt
 twelve-run = refl

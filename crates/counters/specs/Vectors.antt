@@ -5,14 +5,14 @@ use Prim.Native.Nat.{ℕ, zero, suc, _+_, _≤_, _<_}
 use native.Mathlib.Omega.{arith}
 use lib.IntN.{ℤ, pos, _+ℤ_, _*ℤ_, +ℤ-assoc, +ℤ-idl, +ℤ-idr}
 use lib.ListN.{length, getD, take}
-use Rattle.integer.specs.Tab.{tab, at-tab}
+use Rattle.laws.specs.Tab.{tab, at-tab}
 use Rattle.kinds.specs.Table.{counters}
 use Rattle.counters.specs.declared.Counters.{Counters}
 use Rattle.counters.specs.Sum.{sum}
 
 -- the value of counter j
-abbrev pub at : Counters → ℕ → ℤ
-at v j = getD (v .at) j (pos 0)
+abbrev pub valueAt : Counters → ℕ → ℤ
+valueAt v j = getD (v .at) j (pos 0)
 
 -- the values f j
 abbrev pub vec : (ℕ → ℤ) → List ℤ
@@ -44,10 +44,10 @@ sum-same (a ∷ l) θ η h =
 
 -- v has the values f j
 module _ (v : Counters) (f : ℕ → ℤ) (e : v .at ≡ vec f) where
-  pub at-is : (j : ℕ) → j < counters → at v j ≡ f j
+  pub at-is : (j : ℕ) → j < counters → valueAt v j ≡ f j
   at-is j h =
       let z : 0 + j ≡ j = omega arith in
       ap (λ l. getD l j (pos 0)) e ∙ at-tab f counters 0 j (pos 0) h ∙ ap f z
 
-  pub sum-is : (l : List ℤ) → length l ≤ counters → sum l (at v) ≡ sum l f
-  sum-is l h = sum-same l (at v) f (λ j k. at-is j (omega arith))
+  pub sum-is : (l : List ℤ) → length l ≤ counters → sum l (valueAt v) ≡ sum l f
+  sum-is l h = sum-same l (valueAt v) f (λ j k. at-is j (omega arith))

@@ -2,9 +2,9 @@
 ghost use mathlib.Core.Path.{_≡_};
 ghost use Prim.Native.Nat.{ℕ, _+_, _*_, _<_, _^_};
 ghost use lib.IntN.{pos, _+ℤ_, _*ℤ_};
-ghost use Rattle.integer.specs.Sizes.{size};
+ghost use Rattle.laws.specs.Sizes.{size};
 ghost use Rattle.kinds.specs.Table.{counters};
-ghost use Rattle.counters.specs.Vectors.{at, vec};
+ghost use Rattle.counters.specs.Vectors.{valueAt, vec};
 ghost use Rattle.counters.specs.Bounds.{sizes};
 ghost use Rattle.counters.specs.Sum.{sum};
 use kinds::PerCounter;
@@ -39,8 +39,8 @@ pub fn widened(u: PerCounter) -> Counters
 
 // n times b more, counter by counter.
 pub fn more(a: Counters, n: i64, b: Counters) -> Counters
-    requires { ⌜ ((j : ℕ) → j < counters → size (at a j) + size n * size (at b j) < 2 ^ 63) ⌝ }
-    ensures { λ r. ⌜ r .at ≡ vec (λ j. at a j +ℤ n *ℤ at b j) ⌝ }
+    requires { ⌜ ((j : ℕ) → j < counters → size (valueAt a j) + size n * size (valueAt b j) < 2 ^ 63) ⌝ }
+    ensures { λ r. ⌜ r .at ≡ vec (λ j. valueAt a j +ℤ n *ℤ valueAt b j) ⌝ }
 {
     let x = a.at;
     let y = b.at;
@@ -55,8 +55,8 @@ pub fn more(a: Counters, n: i64, b: Counters) -> Counters
 
 // The sum of coefficient times counter.
 pub fn dot(c: PerCounter, v: Counters) -> i64
-    requires { ⌜ sizes (c .at) (at v) < 2 ^ 63 ⌝ }
-    ensures { λ r. ⌜ r ≡ sum (c .at) (at v) ⌝ }
+    requires { ⌜ sizes (c .at) (valueAt v) < 2 ^ 63 ⌝ }
+    ensures { λ r. ⌜ r ≡ sum (c .at) (valueAt v) ⌝ }
 {
     let x = c.at;
     let y = v.at;

@@ -5,21 +5,21 @@ use mathlib.Core.Bool.{Bool, true, false}
 use Prim.Native.Nat.{ℕ, suc, _+_, _-_, _≤_, _<_}
 use native.Mathlib.Numerals.{add-one}
 use native.Mathlib.Omega.{arith}
-use Rattle.integer.specs.All.{from, gather}
+use Rattle.laws.specs.All.{from, gather}
 use Rattle.verdict.specs.Verdict.{Found, nowhere, at, firstNot}
 
 -- f, where it found something, else g
-abbrev pub orElse : {A : Type 0} → Found A → Found A → Found A
-orElse nowhere g = g
-orElse (at a) g = at a
+abbrev pub elseFound : {A : Type 0} → Found A → Found A → Found A
+elseFound nowhere g = g
+elseFound (at a) g = at a
 
-first-both : {A : Type 0} (ok : A → Bool) (l m : List A) → firstNot ok (l ++ m) ≡ orElse (firstNot ok l) (firstNot ok m)
+first-both : {A : Type 0} (ok : A → Bool) (l m : List A) → firstNot ok (l ++ m) ≡ elseFound (firstNot ok l) (firstNot ok m)
 unfolding firstNot
 first-both ok [] m = refl
 first-both {A} ok (a ∷ l) m = by (ok a) (first-both ok l m)
   where
-    by : (t : Bool) → firstNot ok (l ++ m) ≡ orElse (firstNot ok l) (firstNot ok m) →
-        elim t [ true ↦ firstNot ok (l ++ m) | false ↦ at a ] ≡ orElse (elim t [ true ↦ firstNot ok l | false ↦ at a ]) (firstNot ok m)
+    by : (t : Bool) → firstNot ok (l ++ m) ≡ elseFound (firstNot ok l) (firstNot ok m) →
+        elim t [ true ↦ firstNot ok (l ++ m) | false ↦ at a ] ≡ elseFound (elim t [ true ↦ firstNot ok l | false ↦ at a ]) (firstNot ok m)
     by true e = e
     by false e = refl
 
@@ -33,7 +33,7 @@ module _ {A : Type 0} (ok : A → Bool) (f : ℕ → List A) (n : ℕ) where
   unfolding found
   found-start = let e : n ≡ n - 0 = omega arith in ap (λ d. firstNot ok (gather f (from 0 d))) e
 
-  pub found-turn : (k : ℕ) → k < n → found k ≡ orElse (firstNot ok (f k)) (found (k + 1))
+  pub found-turn : (k : ℕ) → k < n → found k ≡ elseFound (firstNot ok (f k)) (found (k + 1))
   unfolding found gather from
   found-turn k h = let e : n - k ≡ suc (n - suc k) = omega arith in rw (e, add-one) (first-both ok (f k) (gather f (from (suc k) (n - suc k))))
 

@@ -1,3 +1,3 @@
-pub mod Sums
+pub mod GuardSums
 pub mod Bits
 pub mod Found

@@ -3,12 +3,12 @@ ghost use mathlib.Core.Path.{_≡_};
 ghost use mathlib.Core.Bool.{cond};
 ghost use Prim.Native.Nat.{_+_, _<_, _^_};
 ghost use lib.IntN.{pos, _+ℤ_};
-ghost use Rattle.integer.specs.Sizes.{size};
+ghost use Rattle.laws.specs.Sizes.{size};
 ghost use Rattle.meaning.specs.Truth.{bit};
-ghost use Rattle.guards.specs.Sums.{SumsFit, throughBy};
+ghost use Rattle.guards.specs.GuardSums.{SumsFit, throughBy};
 use counters::Counters;
 use items::Guard;
-use plan::PlaceNo;
+use items::PlaceNo;
 use verdict::Rounds;
 use verdict::Throughout;
 
@@ -54,5 +54,5 @@ pub fn guard_through(
     let a = counters::dot(g.coefficients, base);
     let d = counters::dot(g.coefficients, drift);
     let first = first_sum(a, d, later);
-    lines::through(first, d, g.bound as i64, rounds)
+    rounds::through(first, d, g.bound as i64, rounds)
 }

@@ -77,6 +77,9 @@ pub struct Place {
     pub mark: LoopMark,
 }
 
+// The number of a place, counted from 0.
+pub struct PlaceNo(pub usize);
+
 // The number of a field, cut to 8 bits.
 fn byte_of(content: Content) -> u8
     ensures { λ r. ⌜ r ≡ byteOf content ⌝ }

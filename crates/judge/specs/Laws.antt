@@ -6,7 +6,7 @@ use Prim.Native.Nat.{ℕ, zero, suc, _+_, _*_, _/_, _%_, _<_}
 use native.Mathlib.Omega.{arith}
 use borrow.Author.Tests.{eq-eqb, ne-eqb}
 use lib.Dec.{eqb}
-use Rattle.integer.specs.All.{from, gather}
+use Rattle.laws.specs.All.{from, gather}
 use Rattle.verdict.specs.Verdict.{nowhere, at, firstNot}
 use Rattle.guards.specs.Found.{found, found-turn}
 

@@ -2,5 +2,5 @@ pub mod Told
 pub mod Laws
 pub mod Ways
 pub mod Tests
-pub mod Sums
+pub mod TestSums
 pub mod Stages

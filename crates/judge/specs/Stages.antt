@@ -8,20 +8,21 @@ use lib.ListN.{getD}
 use Rattle.kinds.specs.declared.Kind.the-variants as kind
 use Rattle.kinds.specs.declared.Counts.{Counts}
 use Rattle.items.specs.declared.Place.{Place}
-use Rattle.plan.specs.declared.Case.{Case}
-use Rattle.plan.specs.declared.Derived.{Derived}
-use Rattle.plan.specs.Cases.{Items, noItem, itemsOf}
-use Rattle.plan.specs.Taking.{isClosed}
-use Rattle.rules.specs.Sound.{Sound}
-use Rattle.rules.specs.Held.{counted, counts-are, derived}
-use Rattle.rules.specs.Files.{size}
-use Rattle.meaning.specs.declared.Judgement.{Judgement}
-use Rattle.meaning.specs.declared.Judgement.the-variants.{Accepted, Unfinished, WrongStart, Unconnected, GuardFails, WrongMark, RootUnmarked}
+use Rattle.collector.specs.declared.Case.{Case}
+use Rattle.collector.specs.declared.Derived.{Derived}
+use Rattle.items.specs.Lists.{Items, noItem}
+use Rattle.collector.specs.Cases.{itemsOf}
+use Rattle.collector.specs.Taking.{isClosed}
+use Rattle.collector.specs.Sound.{Sound}
+use Rattle.rules_laws.specs.Held.{counted, counts-are, derived}
+use Rattle.rules.specs.Files.{itemCount}
+use Rattle.answers.specs.declared.Judgement.{Judgement}
+use Rattle.answers.specs.declared.Judgement.the-variants.{Accepted, Unfinished, WrongStart, Unconnected, GuardFails, WrongMark, RootUnmarked}
 use Rattle.meaning.specs.Run.{Way}
 use Rattle.meaning.specs.Truth.{bit}
-use Rattle.meaning.specs.Judged.{startOf, stateOf, waysOf, Test, testsOf, Mark, marksOf, marked, root}
-use Rattle.verdict.specs.Verdict.{Found, nowhere, at, firstNot, connects, passes, right, finished, answerBy, verdict}
-use Rattle.forward.specs.Reads.{at-places}
+use Rattle.meaning.specs.Judged.{startOf, stateAt, waysOf, Test, testsOf, Mark, marksOf, marked, root}
+use Rattle.verdict.specs.Verdict.{Found, nowhere, at, firstNot, connects, passes, markRight, finished, judgementBy, verdict}
+use Rattle.tables.specs.Reads.{at-places}
 use Rattle.guards.specs.declared.Search.{Search}
 use Rattle.guards.specs.declared.Search.the-variants.{Nowhere, At}
 use Rattle.marks.specs.Wrong.{toldMark}
@@ -50,7 +51,7 @@ rootAnswer x = cond (marked x (root x) 0) Accepted (RootUnmarked (root x))
 
 -- from 34 on, from 33 on, from 32 on
 abbrev pub marksAnswer : Items → Judgement
-marksAnswer x = orWrongMark (toldMark (firstNot (right x (startOf x)) (marksOf x))) (rootAnswer x)
+marksAnswer x = orWrongMark (toldMark (firstNot (markRight x (startOf x)) (marksOf x))) (rootAnswer x)
 
 abbrev pub guardsAnswer : Items → Judgement
 guardsAnswer x = orGuardFails (toldTest (firstNot (passes x (startOf x)) (testsOf x))) (marksAnswer x)
@@ -60,10 +61,10 @@ waysAnswer x = orUnconnected (toldWay x (firstNot (connects x) (waysOf x))) (gua
 
 module _ (x : Items) where
   by-stages : (f s : Bool) (w : Found Way) (t : Found Test) (k : Found Mark) (r : Bool) →
-      answerBy x f s w t k r
+      judgementBy x f s w t k r
       ≡ cond f
       (cond s (orUnconnected (toldWay x w) (orGuardFails (toldTest t) (orWrongMark (toldMark k) (cond r Accepted (RootUnmarked (root x)))))) WrongStart)
-      (Unfinished (size x))
+      (Unfinished (itemCount x))
   by-stages false s w t k r = refl
   by-stages true false w t k r = refl
   by-stages true true (at w) t k r = refl
@@ -72,10 +73,10 @@ module _ (x : Items) where
   by-stages true true nowhere nowhere nowhere false = refl
   by-stages true true nowhere nowhere nowhere true = refl
 
-  verdict-is : verdict x (startOf x) ≡ cond (finished x) (cond (eqb (stateOf x 0) 0) (waysAnswer x) WrongStart) (Unfinished (size x))
+  verdict-is : verdict x (startOf x) ≡ cond (finished x) (cond (eqb (stateAt x 0) 0) (waysAnswer x) WrongStart) (Unfinished (itemCount x))
   unfolding verdict
   verdict-is =
-      by-stages (finished x) (eqb (stateOf x 0) 0) (firstNot (connects x) (waysOf x)) (firstNot (passes x (startOf x)) (testsOf x)) (firstNot (right x (startOf x)) (marksOf x)) (marked x (root x) 0)
+      by-stages (finished x) (eqb (stateAt x 0) 0) (firstNot (connects x) (waysOf x)) (firstNot (passes x (startOf x)) (testsOf x)) (firstNot (markRight x (startOf x)) (marksOf x)) (marked x (root x) 0)
 
 -- ---- as the code reads the case
 
@@ -95,7 +96,7 @@ module _ {c : Case} (s : Sound c) where
   finished-is : isFinished ≡ finished x
   finished-is = rw (ap (λ (d : Derived). d .loops) (derived s), counted c s kind.Sentence, counted c s kind.Place)
 
-  held-is : held (c .count) ≡ size x
+  held-is : held (c .count) ≡ itemCount x
   held-is = ap held (counts-are c s)
 
   judged : verdict x (startOf x) ≡ cond isFinished (cond (eqb (first .state) 0) (waysAnswer x) WrongStart) (Unfinished (held (c .count)))

@@ -7,26 +7,27 @@ use Prim.Native.Nat.{ℕ, _*_, _/_, _%_, _≤_, _<_}
 use native.Mathlib.Omega.{arith}
 use lib.Dec.{eqb}
 use lib.ListN.{length, getD}
-use Rattle.integer.specs.All.{All, none, also, from, gather}
+use Rattle.laws.specs.All.{All, none, also, from, gather}
 use Rattle.kinds.specs.declared.Kind.the-variants as kind
 use Rattle.items.specs.declared.Ref.{Ref}
 use Rattle.items.specs.declared.Ref.the-variants as ref
 use Rattle.items.specs.declared.Guard.{Guard}
 use Rattle.items.specs.declared.Move.{Move}
-use Rattle.plan.specs.declared.Case.{Case}
-use Rattle.plan.specs.Cases.{Items, itemsOf, noItem, roomOf}
-use Rattle.rules.specs.Sound.{Sound}
-use Rattle.rules.specs.Held.{counted}
-use Rattle.meaning.specs.Run.{Way, moveNo, moveAt, moveOf, guardAt, named, guardsOf}
+use Rattle.collector.specs.declared.Case.{Case}
+use Rattle.items.specs.Lists.{Items, noItem, roomOf}
+use Rattle.collector.specs.Cases.{itemsOf}
+use Rattle.collector.specs.Sound.{Sound}
+use Rattle.rules_laws.specs.Held.{counted}
+use Rattle.meaning.specs.Run.{Way, moveNo, moveAt, moveBy, guardAt, named, guardsOf}
 use Rattle.meaning.specs.Judged.{startOf, Test, testsOf}
-use Rattle.meaning.specs.Facts.{Facts}
-use Rattle.meaning.specs.Given.{facts}
+use Rattle.meaning_laws.specs.Facts.{Facts}
+use Rattle.meaning_laws.specs.Given.{facts}
 use Rattle.verdict.specs.declared.Rounds.the-variants as rounds
 use Rattle.verdict.specs.Rounds.{roundsOf, later, roundsBy}
-use Rattle.verdict.specs.Verdict.{Found, firstNot, passes, numberOf}
-use Rattle.forward.specs.declared.Firsts.{Firsts}
-use Rattle.forward.specs.Tables.{firstsOf}
-use Rattle.forward.specs.Reads.{at-places, at-moves, at-guards}
+use Rattle.verdict.specs.Verdict.{Found, firstNot, passes, refNumber}
+use Rattle.tables.specs.declared.Firsts.{Firsts}
+use Rattle.tables.specs.Tables.{firstsOf}
+use Rattle.tables.specs.Reads.{at-places, at-moves, at-guards}
 use Rattle.marks.specs.Known.{first-is, rounds-are}
 use Rattle.guards.specs.Found.{found, found-start}
 use Rattle.judge.specs.Told.{isNamed, given}
@@ -39,7 +40,7 @@ guardBy second m = cond second (m .guard2) (m .guard1)
 
 -- ---- all tests
 
-both-listed : {A : Type 0} (f : ℕ → A) (a b : Ref) → map f (named a ++ named b) ++ [] ≡ listed (isNamed a) (f (numberOf a)) ++ listed (isNamed b) (f (numberOf b))
+both-listed : {A : Type 0} (f : ℕ → A) (a b : Ref) → map f (named a ++ named b) ++ [] ≡ listed (isNamed a) (f (refNumber a)) ++ listed (isNamed b) (f (refNumber b))
 both-listed f ref.None ref.None = refl
 both-listed f ref.None (ref.At m) = refl
 both-listed f (ref.At n) ref.None = refl
@@ -48,15 +49,15 @@ both-listed f (ref.At n) (ref.At m) = refl
 module _ (x : Items) where
   -- a guard on a way
   abbrev guardOn : Way → Bool → Ref
-  guardOn w second = guardBy second (moveOf x w)
+  guardOn w second = guardBy second (moveBy x w)
 
   -- as a test
   abbrev testOn : Way → Bool → Test
-  testOn w second = record { way = w; guard = numberOf (guardOn w second) }
+  testOn w second = record { way = w; guard = refNumber (guardOn w second) }
 
   -- the tests of a way
   abbrev testsOn : Way → List Test
-  testsOn w = map (λ g. record { way = w; guard = g }) (guardsOf (moveOf x w))
+  testsOn w = map (λ g. record { way = w; guard = g }) (guardsOf (moveBy x w))
 
   on-way : (w : Way) → gather testsOn (listed (isNamed (moveNo (x .places) w)) w)
       ≡ listed (isNamed (guardOn w false)) (testOn w false) ++ listed (isNamed (guardOn w true)) (testOn w true)
@@ -69,7 +70,7 @@ module _ (x : Items) where
       by : (r : Ref) →
           let m = moveAt (x .moves) r in
           testsOn w ≡ map test (guardsOf m) →
-          gather testsOn (listed (isNamed r) w) ≡ listed (isNamed (m .guard1)) (test (numberOf (m .guard1))) ++ listed (isNamed (m .guard2)) (test (numberOf (m .guard2)))
+          gather testsOn (listed (isNamed r) w) ≡ listed (isNamed (m .guard1)) (test (refNumber (m .guard1))) ++ listed (isNamed (m .guard2)) (test (refNumber (m .guard2)))
       by ref.None e = refl
       by (ref.At t) e = ap (λ k. k ++ []) e ∙ both-listed test (moveAt (x .moves) (ref.At t) .guard1) (moveAt (x .moves) (ref.At t) .guard2)
 
@@ -102,14 +103,14 @@ module _ (x : Items) where
 -- ---- what the code reads of test k
 
 -- a guard of the move that a reference names
-by-number : (ts : List Move) (r : Ref) (second : Bool) → given r (guardBy second (getD ts (numberOf r) (noItem kind.Move))) ≡ guardBy second (moveAt ts r)
+by-number : (ts : List Move) (r : Ref) (second : Bool) → given r (guardBy second (getD ts (refNumber r) (noItem kind.Move))) ≡ guardBy second (moveAt ts r)
 unfolding moveAt
 by-number ts ref.None true = refl
 by-number ts ref.None false = refl
 by-number ts (ref.At t) second = refl
 
 -- a guard of a move is one of the guards, of which there is room for m
-one-below : (a b : Ref) (second : Bool) {n m : ℕ} → All (λ g. g < n) (named a ++ named b) → 0 < m → n ≤ m → numberOf (cond second b a) < m
+one-below : (a b : Ref) (second : Bool) {n m : ℕ} → All (λ g. g < n) (named a ++ named b) → 0 < m → n ≤ m → refNumber (cond second b a) < m
 one-below ref.None b false h z l = z
 one-below (ref.At u) b false (also g h) z l = omega arith
 one-below a ref.None true h z l = z
@@ -130,16 +131,16 @@ module _ {c : Case} (s : Sound c) (k : ℕ) (h : k < 4 * c .count .places) where
   abbrev r : Ref
   r = moveNo (x .places) (wayNo (k / 2))
 
-  pub guard-read : (d : Move) → given r (guardBy (eqb (k % 2) 1) (getD (c .moves) (numberOf r) d)) ≡ guardNo x k
-  guard-read d = rw (at-moves s (numberOf r) d (move-below s (k / 2) (omega arith))) (by-number (x .moves) r (eqb (k % 2) 1))
+  pub guard-read : (d : Move) → given r (guardBy (eqb (k % 2) 1) (getD (c .moves) (refNumber r) d)) ≡ guardNo x k
+  guard-read d = rw (at-moves s (refNumber r) d (move-below s (k / 2) (omega arith))) (by-number (x .moves) r (eqb (k % 2) 1))
 
-  pub guard-below : numberOf (guardNo x k) < roomOf kind.Guard
+  pub guard-below : refNumber (guardNo x k) < roomOf kind.Guard
   guard-below =
       let m = moveAt (x .moves) r in
       one-below (m .guard1) (m .guard2) (eqb (k % 2) 1) (guards-held (facts c s) r (move-held s (k / 2) (omega arith))) (omega arith) (omega (arith, counted c s kind.Guard, s .room kind.Guard))
 
-  pub guard-at : (d : Guard) {n : ℕ} → n ≡ numberOf (guardNo x k) → getD (c .guards) n d ≡ guardAt (x .guards) (numberOf (guardNo x k))
-  guard-at d e = ap (λ n. getD (c .guards) n d) e ∙ at-guards s (numberOf (guardNo x k)) d guard-below
+  pub guard-at : (d : Guard) {n : ℕ} → n ≡ refNumber (guardNo x k) → getD (c .guards) n d ≡ guardAt (x .guards) (refNumber (guardNo x k))
+  guard-at d e = ap (λ n. getD (c .guards) n d) e ∙ at-guards s (refNumber (guardNo x k)) d guard-below
 
 -- ---- the rounds of a way into place p, as the code reads them
 

@@ -2,17 +2,17 @@
 use mathlib.Core.Bool.{Bool, true, false}
 use Rattle.items.specs.declared.Ref.{Ref}
 use Rattle.items.specs.declared.Ref.the-variants as ref
-use Rattle.plan.specs.Cases.{Items}
+use Rattle.items.specs.Lists.{Items}
 use Rattle.meaning.specs.Run.{Way, moveNo}
 use Rattle.meaning.specs.Judged.{Test}
-use Rattle.verdict.specs.Verdict.{Found, nowhere, at, numberOf}
+use Rattle.verdict.specs.Verdict.{Found, nowhere, at, refNumber}
 use Rattle.guards.specs.declared.Search.{Search}
 use Rattle.guards.specs.declared.Search.the-variants.{Nowhere, At}
 
 -- a way, with its move
 abbrev pub toldWay : Items → Found Way → Search
 toldWay x nowhere = Nowhere
-toldWay x (at w) = At (record { 0 = w .place }) (numberOf (moveNo (x .places) w))
+toldWay x (at w) = At (record { 0 = w .place }) (refNumber (moveNo (x .places) w))
 
 -- a guard on a way
 abbrev pub toldTest : Found Test → Search

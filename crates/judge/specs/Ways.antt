@@ -6,8 +6,8 @@ use Prim.Native.Nat.{ℕ, zero, suc, _+_, _-_, _*_, _/_, _%_, _≤_, _<_}
 use native.Mathlib.Omega.{arith}
 use lib.Dec.{eqb}
 use lib.ListN.{length, getD}
-use Rattle.integer.specs.Tests.{cond-by}
-use Rattle.integer.specs.All.{from, gather}
+use Rattle.laws.specs.Tests.{cond-by}
+use Rattle.laws.specs.All.{from, gather}
 use Rattle.kinds.specs.declared.Kind.the-variants as kind
 use Rattle.items.specs.declared.Ref.{Ref}
 use Rattle.items.specs.declared.Ref.the-variants as ref
@@ -15,16 +15,17 @@ use Rattle.items.specs.declared.LoopMark.{LoopMark}
 use Rattle.items.specs.declared.LoopMark.the-variants as mark
 use Rattle.items.specs.declared.Move.{Move}
 use Rattle.items.specs.declared.Place.{Place}
-use Rattle.plan.specs.declared.Case.{Case}
-use Rattle.plan.specs.Cases.{Items, noItem, itemsOf, roomOf}
-use Rattle.rules.specs.Sound.{Sound}
-use Rattle.rules.specs.Held.{counted}
+use Rattle.collector.specs.declared.Case.{Case}
+use Rattle.items.specs.Lists.{Items, noItem, roomOf}
+use Rattle.collector.specs.Cases.{itemsOf}
+use Rattle.collector.specs.Sound.{Sound}
+use Rattle.rules_laws.specs.Held.{counted}
 use Rattle.meaning.specs.Run.{Way, stretch, backOf, placeAt, moveNo, moveAt}
-use Rattle.meaning.specs.Judged.{wayIn, wayBack, waysInto, waysOf, before}
-use Rattle.meaning.specs.Facts.{Facts}
-use Rattle.meaning.specs.Given.{facts}
-use Rattle.verdict.specs.Verdict.{Found, firstNot, connects, numberOf}
-use Rattle.forward.specs.Reads.{at-places, at-moves}
+use Rattle.meaning.specs.Judged.{wayIn, wayBack, waysInto, waysOf, placeBefore}
+use Rattle.meaning_laws.specs.Facts.{Facts}
+use Rattle.meaning_laws.specs.Given.{facts}
+use Rattle.verdict.specs.Verdict.{Found, firstNot, connects, refNumber}
+use Rattle.tables.specs.Reads.{at-places, at-moves}
 use Rattle.guards.specs.Found.{found, found-start}
 use Rattle.judge.specs.Told.{isNamed}
 use Rattle.judge.specs.Laws.{listed, each, fails, gather-two}
@@ -66,12 +67,12 @@ module _ (x : Items) where
 
 -- the move that a reference names is the one with its number
 by-number : (ts : List Move) (r : Ref) (f : Move → Bool)
-    → (isNamed r && f (getD ts (numberOf r) (noItem kind.Move))) ≡ (isNamed r && f (moveAt ts r))
+    → (isNamed r && f (getD ts (refNumber r) (noItem kind.Move))) ≡ (isNamed r && f (moveAt ts r))
 unfolding moveAt
 by-number ts ref.None f = refl
 by-number ts (ref.At t) f = refl
 
-number-below : (r : Ref) (n : ℕ) → 0 < n → ((t : ℕ) → r ≡ ref.At t → t < n) → numberOf r < n
+number-below : (r : Ref) (n : ℕ) → 0 < n → ((t : ℕ) → r ≡ ref.At t → t < n) → refNumber r < n
 number-below ref.None n h f = h
 number-below (ref.At t) n h f = f t refl
 
@@ -99,7 +100,7 @@ module _ {c : Case} (s : Sound c) (k : ℕ) where
   pub way-move : cond (wayNo k .back) (backOf (place .mark)) (place .way) ≡ moveNo (x .places) (wayNo k)
   way-move = ap (λ (q : Place). cond (wayNo k .back) (backOf (q .mark)) (q .way)) (at-places s (k / 2))
 
-  pub way-before : cond (wayNo k .back) (k / 2 + stretch (place .mark) - 1) (k / 2 - 1) ≡ before (x .places) (wayNo k)
+  pub way-before : cond (wayNo k .back) (k / 2 + stretch (place .mark) - 1) (k / 2 - 1) ≡ placeBefore (x .places) (wayNo k)
   way-before = ap (λ (q : Place). cond (wayNo k .back) (k / 2 + stretch (q .mark) - 1) (k / 2 - 1)) (at-places s (k / 2))
 
   module _ (h : k < 2 * c .count .places) where
@@ -109,7 +110,7 @@ module _ {c : Case} (s : Sound c) (k : ℕ) where
     pub way-room : (1 ≤ stretch (place .mark)) × (k / 2 + stretch (place .mark) ≤ roomOf kind.Place)
     way-room = rw (at-places s (k / 2)) (facts c s .laid .long (k / 2), facts c s .room (k / 2) inside)
 
-    pub before-below : before (x .places) (wayNo k) < roomOf kind.Place
+    pub before-below : placeBefore (x .places) (wayNo k) < roomOf kind.Place
     before-below =
         let f = facts c s in
         let r = f .room (k / 2) inside in
@@ -123,7 +124,7 @@ module _ {c : Case} (s : Sound c) (k : ℕ) where
         by true t e = facts c s .backs (k / 2) t inside e
         by false t e = way-below (facts c s) (k / 2) t inside e
 
-    pub move-below : numberOf (moveNo (x .places) (wayNo k)) < roomOf kind.Move
+    pub move-below : refNumber (moveNo (x .places) (wayNo k)) < roomOf kind.Move
     move-below =
         number-below (moveNo (x .places) (wayNo k)) (roomOf kind.Move) (omega arith)
         (λ t e. omega (arith, move-held t e, counted c s kind.Move, s .room kind.Move))
@@ -131,11 +132,11 @@ module _ {c : Case} (s : Sound c) (k : ℕ) where
     -- the test of way k, as the code makes it
     pub way-fails : (d : Move) →
         let r = moveNo (x .places) (wayNo k) in
-        let m = getD (c .moves) (numberOf r) d in
-        (isNamed r && not (eqb (m .from) (getD (c .places) (before (x .places) (wayNo k)) (noItem kind.Place) .state) && eqb (m .to) (place .state)))
+        let m = getD (c .moves) (refNumber r) d in
+        (isNamed r && not (eqb (m .from) (getD (c .places) (placeBefore (x .places) (wayNo k)) (noItem kind.Place) .state) && eqb (m .to) (place .state)))
         ≡ fails (connects x) (isWay x) wayNo (2 * length (x .places)) k
     way-fails d =
         let w = wayNo k in
         let r = moveNo (x .places) w in
-        rw (at-moves s (numberOf r) d move-below, at-places s (before (x .places) w), at-places s (k / 2))
-        (by-number (x .moves) r (λ m. not (eqb (m .from) (placeAt (x .places) (before (x .places) w) .state) && eqb (m .to) (placeAt (x .places) (k / 2) .state))))
+        rw (at-moves s (refNumber r) d move-below, at-places s (placeBefore (x .places) w), at-places s (k / 2))
+        (by-number (x .moves) r (λ m. not (eqb (m .from) (placeAt (x .places) (placeBefore (x .places) w) .state) && eqb (m .to) (placeAt (x .places) (k / 2) .state))))

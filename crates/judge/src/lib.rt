@@ -4,32 +4,33 @@ ghost use mathlib.Core.Bool.{cond, not, _&&_};
 ghost use lib.Dec.{eqb, ltb};
 ghost use Prim.Native.Nat.{_+_, _-_, _≤_, _<_, _^_};
 ghost use Rattle.kinds.specs.declared.Kind.the-variants as kind;
-ghost use Rattle.plan.specs.Cases.{itemsOf, roomOf};
-ghost use Rattle.plan.specs.Taking.{isClosed};
-ghost use Rattle.rules.specs.Sound.{Sound};
+ghost use Rattle.collector.specs.Cases.{itemsOf};
+ghost use Rattle.items.specs.Lists.{roomOf};
+ghost use Rattle.collector.specs.Taking.{isClosed};
+ghost use Rattle.collector.specs.Sound.{Sound};
 ghost use Rattle.meaning.specs.Run.{stretch, backOf};
 ghost use Rattle.meaning.specs.Judged.{startOf, waysOf, testsOf};
 ghost use Rattle.verdict.specs.declared.Rounds.the-variants as rounds;
 ghost use Rattle.verdict.specs.Rounds.{roundsOf, later};
-ghost use Rattle.verdict.specs.Verdict.{firstNot, connects, passes, isAlways, numberOf, verdict};
-ghost use Rattle.forward.specs.Tables.{tablesOf};
-ghost use Rattle.guards.specs.Sums.{SumsFit, throughBy};
+ghost use Rattle.verdict.specs.Verdict.{firstNot, connects, passes, isAlways, refNumber, verdict};
+ghost use Rattle.tables.specs.Tables.{tablesOf};
+ghost use Rattle.guards.specs.GuardSums.{SumsFit, throughBy};
 ghost use Rattle.judge.specs.Told.{toldWay, toldTest, isNamed, given};
 ghost use Rattle.judge.specs.Tests.{guardBy};
 ghost use Rattle.judge.specs.Stages.{held};
+use answers::Judgement;
+use collector::Case;
+use collector::Loops;
 use counters::Counters;
-use forward::Tables;
 use guards::Search;
 use items::Guard;
 use items::LoopMark;
 use items::Move;
 use items::Place;
+use items::PlaceNo;
 use items::Ref;
 use kinds::Counts;
-use meaning::Judgement;
-use plan::Case;
-use plan::Loops;
-use plan::PlaceNo;
+use tables::Tables;
 use verdict::Rounds;
 
 // One less, and 0 for 0.
@@ -44,7 +45,7 @@ fn one_less(n: usize) -> usize
 
 // The number of a reference, and 0 for none.
 fn number(r: Ref) -> u8
-    ensures { λ n. ⌜ n ≡ numberOf r ⌝ }
+    ensures { λ n. ⌜ n ≡ refNumber r ⌝ }
 {
     match r {
         Ref::None => 0,
@@ -84,7 +85,7 @@ fn place_before(p: usize, mark: LoopMark, back: bool) -> usize
     ensures { λ q. ⌜ q ≡ cond back (p + stretch mark - 1) (p - 1) ⌝ }
 {
     if back {
-        return p + lines::stretch(mark) - 1;
+        return p + rounds::stretch(mark) - 1;
     }
     one_less(p)
 }
@@ -155,12 +156,12 @@ fn rounds_by(back: bool, begins: bool, own: LoopMark, around: LoopMark) -> Round
     ensures { λ r. ⌜ r ≡ cond back (later (roundsOf own)) (cond begins (rounds.UpTo 0) (roundsOf around)) ⌝ }
 {
     if back {
-        return lines::later(lines::rounds_of(own));
+        return rounds::later(rounds::rounds_of(own));
     }
     if begins {
         return Rounds::UpTo(0);
     }
-    lines::rounds_of(around)
+    rounds::rounds_of(around)
 }
 
 // Whether there is a guard and it isn't met.
@@ -170,7 +171,7 @@ fn misses(q: Ref, g: Guard, base: Counters, drift: Counters, back: bool, rounds:
 {
     match q {
         Ref::None => false,
-        Ref::At(_) => !lines::is_always(guards::guard_through(g, base, drift, back, rounds)),
+        Ref::At(_) => !rounds::is_always(guards::guard_through(g, base, drift, back, rounds)),
     }
 }
 

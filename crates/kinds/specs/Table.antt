@@ -6,8 +6,8 @@ use Prim.Native.Nat.{ℕ, _+_}
 use lib.Dec.{eqb}
 use lib.IntN.{ℤ, pos, negsuc, negℤ}
 use lib.ListN.{replicate, getD}
-use Rattle.integer.specs.Lists.{nth}
-use Rattle.integer.specs.Tab.{tab}
+use Rattle.laws.specs.Lists.{nth}
+use Rattle.laws.specs.Tab.{tab}
 use Rattle.record.specs.declared.Content.{Content}
 use Rattle.record.specs.declared.Content.the-variants.{Blank, Number, Bad}
 use Rattle.record.specs.declared.Record.{Record}
@@ -90,29 +90,29 @@ placeRow x =
     ∷ []
 
 -- the row of a kind and a form
-abbrev pub rowOf : ℕ → Kind → ℕ → (ℕ → Bool) → List Rule
-rowOf n State f x = stateRow
-rowOf n Guard f x = guardRow n
-rowOf n Move f x = moveRow n x
-rowOf n Sentence f x = sentenceRow f x
-rowOf n Place f x = placeRow x
+abbrev pub rulesOf : ℕ → Kind → ℕ → (ℕ → Bool) → List Rule
+rulesOf n State f x = stateRow
+rulesOf n Guard f x = guardRow n
+rulesOf n Move f x = moveRow n x
+rulesOf n Sentence f x = sentenceRow f x
+rulesOf n Place f x = placeRow x
 
 -- the numbers from low to high
-abbrev pub between : ℤ → ℤ → Range
-between low high = record { low = low; high = high }
+abbrev pub fromTo : ℤ → ℤ → Range
+fromTo low high = record { low = low; high = high }
 
 -- the numbers that a field of each sort allows; a bound may be any number that a field can spell
 abbrev pub rangeOf : Sort → Range
-rangeOf Propositions = between (pos 0) (pos 65535)
-rangeOf Coefficient = between (negℤ (pos 999)) (pos 999)
-rangeOf Bound = between (negℤ (pos 999999)) (pos 9999999)
-rangeOf Update = between (negℤ (pos 9999)) (pos 9999)
-rangeOf Form = between (pos 0) (pos 6)
-rangeOf Proposition = between (pos 0) (pos 15)
-rangeOf Marks = between (pos 0) (pos 1048575)
-rangeOf LoopLength = between (pos 1) (pos 64)
-rangeOf Rounds = between (pos 1) (pos 1000000)
-rangeOf (Reference k) = between (pos 0) (pos 63)
+rangeOf Propositions = fromTo (pos 0) (pos 65535)
+rangeOf Coefficient = fromTo (negℤ (pos 999)) (pos 999)
+rangeOf Bound = fromTo (negℤ (pos 999999)) (pos 9999999)
+rangeOf Update = fromTo (negℤ (pos 9999)) (pos 9999)
+rangeOf Form = fromTo (pos 0) (pos 6)
+rangeOf Proposition = fromTo (pos 0) (pos 15)
+rangeOf Marks = fromTo (pos 0) (pos 1048575)
+rangeOf LoopLength = fromTo (pos 1) (pos 64)
+rangeOf Rounds = fromTo (pos 1) (pos 1000000)
+rangeOf (Reference k) = fromTo (pos 0) (pos 63)
 
 -- whether a field is blank
 abbrev pub isBlank : Content → Bool
@@ -152,4 +152,4 @@ inFilled x n = eqb (nth (x .at) n 0) 1
 
 -- the rule of field f, counted from 1
 unfoldable pub ruleAt : Shape → ℕ → Rule
-ruleAt s f = nth (rowOf counters (s .kind) (s .form) (inFilled (s .filled))) f rule.Blank
+ruleAt s f = nth (rulesOf counters (s .kind) (s .form) (inFilled (s .filled))) f rule.Blank

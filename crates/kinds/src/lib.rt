@@ -2,10 +2,9 @@
 ghost use mathlib.Core.Path.{_≡_};
 ghost use mathlib.Core.Bool.{_||_};
 ghost use mathlib.Core.List.{_∷_};
-ghost use Prim.Native.Nat.{_≤_, _<_};
+ghost use Prim.Native.Nat.{_-_, _<_};
 ghost use lib.ListN.{replicate};
-ghost use Rattle.integer.specs.Lists.{nth};
-ghost use Rattle.record.specs.Layout.{fields};
+ghost use Rattle.laws.specs.Lists.{nth};
 ghost use Rattle.kinds.specs.declared.Rule.the-variants as rule;
 ghost use Rattle.kinds.specs.declared.Sort.the-variants.{Form};
 ghost use Rattle.kinds.specs.Kinds.{kindOf, countOf};
@@ -195,16 +194,6 @@ pub fn shape_of(kind: Kind, row: Record) -> Shape
     }
 }
 
-impl Filled {
-    // Whether field k is filled, counted from 1.
-    fn has(self, k: usize) -> bool
-        requires { ⌜ (0 < k) × (k ≤ fields) ⌝ }
-        ensures { λ r. ⌜ r ≡ inFilled self k ⌝ }
-    {
-        self.at[k - 1] == 1
-    }
-}
-
 // A field that may be blank, but is needed where the test holds.
 fn needed_if(needed: bool, sort: Sort) -> Rule
     ensures { λ r. ⌜ r ≡ neededIf needed sort ⌝ }
@@ -223,7 +212,7 @@ fn any(a: bool, b: bool) -> bool
     if a { true } else { b }
 }
 
-// The rules of each kind, for field k, counted from 1. A state: its propositions.
+// The rules of each kind, for field k, counted from 1; x[j - 1] tells whether field j is filled. A state: its propositions.
 fn state_rule(k: usize) -> Rule
     requires { ⌜ 0 < k ⌝ }
     ensures { λ r. ⌜ r ≡ nth stateRow k rule.Blank ⌝ }
@@ -254,6 +243,7 @@ fn move_rule(filled: Filled, k: usize) -> Rule
     requires { ⌜ 0 < k ⌝ }
     ensures { λ r. ⌜ r ≡ nth (moveRow counters (inFilled filled)) k rule.Blank ⌝ }
 {
+    let x = filled.at;
     if k <= 2 {
         return Rule::Needed(Sort::Reference(Kind::State));
     }
@@ -262,7 +252,7 @@ fn move_rule(filled: Filled, k: usize) -> Rule
     }
     if k == 3 + PerCounter::COUNT {
         return needed_if(
-            filled.has(4 + PerCounter::COUNT),
+            x[4 + PerCounter::COUNT - 1] == 1,
             Sort::Reference(Kind::Guard),
         );
     }
@@ -272,15 +262,15 @@ fn move_rule(filled: Filled, k: usize) -> Rule
     Rule::Blank
 }
 
-// The rule of field k of a sentence that has n fields of one sort after its form.
-fn parts_rule(n: usize, sort: Sort, k: usize) -> Rule
+// The rule of field k of a sentence whose fields after its form, up to the last, are of one sort.
+fn parts_rule(last: usize, sort: Sort, k: usize) -> Rule
     requires { ⌜ 0 < k ⌝ }
-    ensures { λ r. ⌜ r ≡ nth (rule.Needed Form ∷ replicate n (rule.Needed sort)) k rule.Blank ⌝ }
+    ensures { λ r. ⌜ r ≡ nth (rule.Needed Form ∷ replicate (last - 1) (rule.Needed sort)) k rule.Blank ⌝ }
 {
     if k == 1 {
         return Rule::Needed(Sort::Form);
     }
-    if k - 1 <= n {
+    if k <= last {
         return Rule::Needed(sort);
     }
     Rule::Blank
@@ -291,19 +281,20 @@ fn until_rule(filled: Filled, k: usize) -> Rule
     requires { ⌜ 0 < k ⌝ }
     ensures { λ r. ⌜ r ≡ nth (sentenceRow 6 (inFilled filled)) k rule.Blank ⌝ }
 {
+    let x = filled.at;
     match k {
         4 => Rule::Needed(Sort::Bound),
         5 => needed_if(
-            any(filled.has(6), any(filled.has(7), filled.has(8))),
+            any(x[6 - 1] == 1, any(x[7 - 1] == 1, x[8 - 1] == 1)),
             Sort::Coefficient,
         ),
         6 => needed_if(
-            any(filled.has(5), any(filled.has(7), filled.has(8))),
+            any(x[5 - 1] == 1, any(x[7 - 1] == 1, x[8 - 1] == 1)),
             Sort::Reference(Kind::Sentence),
         ),
-        7 => needed_if(filled.has(8), Sort::Coefficient),
-        8 => needed_if(filled.has(7), Sort::Reference(Kind::Sentence)),
-        _ => parts_rule(2, Sort::Reference(Kind::Sentence), k),
+        7 => needed_if(x[8 - 1] == 1, Sort::Coefficient),
+        8 => needed_if(x[7 - 1] == 1, Sort::Reference(Kind::Sentence)),
+        _ => parts_rule(3, Sort::Reference(Kind::Sentence), k),
     }
 }
 
@@ -313,13 +304,13 @@ fn sentence_rule(form: u32, filled: Filled, k: usize) -> Rule
     ensures { λ r. ⌜ r ≡ nth (sentenceRow form (inFilled filled)) k rule.Blank ⌝ }
 {
     match form {
-        1 => parts_rule(1, Sort::Proposition, k),
-        2 => parts_rule(1, Sort::Reference(Kind::Guard), k),
-        3 => parts_rule(2, Sort::Reference(Kind::Sentence), k),
-        4 => parts_rule(1, Sort::Reference(Kind::Sentence), k),
-        5 => parts_rule(1, Sort::Reference(Kind::Sentence), k),
+        1 => parts_rule(2, Sort::Proposition, k),
+        2 => parts_rule(2, Sort::Reference(Kind::Guard), k),
+        3 => parts_rule(3, Sort::Reference(Kind::Sentence), k),
+        4 => parts_rule(2, Sort::Reference(Kind::Sentence), k),
+        5 => parts_rule(2, Sort::Reference(Kind::Sentence), k),
         6 => until_rule(filled, k),
-        _ => parts_rule(0, Sort::Form, k),
+        _ => parts_rule(1, Sort::Form, k),
     }
 }
 
@@ -328,13 +319,14 @@ fn place_rule(filled: Filled, k: usize) -> Rule
     requires { ⌜ 0 < k ⌝ }
     ensures { λ r. ⌜ r ≡ nth (placeRow (inFilled filled)) k rule.Blank ⌝ }
 {
+    let x = filled.at;
     match k {
         1 => Rule::Needed(Sort::Reference(Kind::State)),
         2 => Rule::Optional(Sort::Reference(Kind::Move)),
         3 => Rule::Needed(Sort::Marks),
-        4 => needed_if(any(filled.has(5), filled.has(6)), Sort::LoopLength),
+        4 => needed_if(any(x[5 - 1] == 1, x[6 - 1] == 1), Sort::LoopLength),
         5 => Rule::Optional(Sort::Rounds),
-        6 => needed_if(filled.has(4), Sort::Reference(Kind::Move)),
+        6 => needed_if(x[4 - 1] == 1, Sort::Reference(Kind::Move)),
         _ => Rule::Blank,
     }
 }

@@ -8,10 +8,10 @@ use lib.ListN.{length, List·getD-eq-default}
 use lib.Pow.{pow-pos}
 use mir.Syntax.{Width}
 use mir.Val.{SFits, hbits}
-use Rattle.integer.specs.Sizes.{size}
+use Rattle.laws.specs.Sizes.{size}
 use Rattle.kinds.specs.declared.Kind.the-variants as kind
 use Rattle.items.specs.declared.Place.{Place}
-use Rattle.plan.specs.Cases.{Items, noItem}
+use Rattle.items.specs.Lists.{Items, noItem}
 use Rattle.meaning.specs.Truth.{bit}
 use Rattle.meaning.specs.Judged.{marked}
 use Rattle.guards.specs.Bits.{bit-past}

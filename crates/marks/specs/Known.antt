@@ -11,25 +11,26 @@ use Rattle.items.specs.declared.State.{State}
 use Rattle.items.specs.declared.Form.{Form}
 use Rattle.items.specs.declared.Sentence.{Sentence}
 use Rattle.items.specs.declared.Place.{Place}
-use Rattle.plan.specs.declared.Case.{Case}
-use Rattle.plan.specs.Cases.{Items, itemsOf, roomOf, noItem}
-use Rattle.rules.specs.Sound.{Sound}
-use Rattle.rules.specs.Held.{counted}
+use Rattle.collector.specs.declared.Case.{Case}
+use Rattle.items.specs.Lists.{Items, roomOf, noItem}
+use Rattle.collector.specs.Cases.{itemsOf}
+use Rattle.collector.specs.Sound.{Sound}
+use Rattle.rules_laws.specs.Held.{counted}
 use Rattle.meaning.specs.Run.{stretch, placeAt}
 use Rattle.meaning.specs.Truth.{bit}
-use Rattle.meaning.specs.Judged.{startOf, stateOf, marked}
-use Rattle.meaning.specs.Given.{facts}
+use Rattle.meaning.specs.Judged.{startOf, stateAt, marked}
+use Rattle.meaning_laws.specs.Given.{facts}
 use Rattle.verdict.specs.declared.Throughout.{Throughout}
 use Rattle.verdict.specs.Rounds.{firstOf, loopOf, roundsOf, flag}
 use Rattle.verdict.specs.Forward.{drift, base}
 use Rattle.verdict.specs.Verdict.{nextBy, nextThrough, formThrough, isAlways, isNever}
 use Rattle.counters.specs.declared.Counters.{Counters}
-use Rattle.forward.specs.declared.Firsts.{Firsts}
-use Rattle.forward.specs.declared.Tables.{Tables}
-use Rattle.forward.specs.Tables.{vecOf, firstsOf, tablesOf}
-use Rattle.forward.specs.Entries.{first-at, values-at}
-use Rattle.forward.specs.Reads.{at-states, at-sentences, at-places}
-use Rattle.forward.specs.Stretches.{first-below, mark-is, end-in}
+use Rattle.tables.specs.declared.Firsts.{Firsts}
+use Rattle.tables.specs.declared.Tables.{Tables}
+use Rattle.tables.specs.Tables.{vecOf, firstsOf, tablesOf}
+use Rattle.tables.specs.Entries.{first-at, values-at}
+use Rattle.tables.specs.Reads.{at-states, at-sentences, at-places}
+use Rattle.tables.specs.Stretches.{first-below, mark-is, end-in}
 use Rattle.marks.specs.Wrong.{isRight, wrongIn, formAt, wrongOf, sameAlways, simpleThrough}
 use Rattle.marks.specs.Ranged.{Ranged, ranged}
 
@@ -95,7 +96,7 @@ module _ {c : Case} (s : Sound c) (p : ℕ) where
       flag (sameAlways φ (getD (c .states) (here .state) (noItem kind.State) .propositions) (here .marks)) ≡ simpleThrough (itemsOf c) φ p
   simple-is φ =
       ap (λ (y : Place). flag (sameAlways φ (getD (c .states) (y .state) (noItem kind.State) .propositions) (y .marks))) (at-places s p)
-      ∙ ap (λ (z : State). flag (sameAlways φ (z .propositions) (placeAt (itemsOf c .places) p .marks))) (at-states s (stateOf (itemsOf c) p))
+      ∙ ap (λ (z : State). flag (sameAlways φ (z .propositions) (placeAt (itemsOf c .places) p .marks))) (at-states s (stateAt (itemsOf c) p))
 
   -- the mark of sentence i there, against what the sentence is by f
   pub right-is : (i : ℕ) (f : ℕ → Throughout) {b : Bool} {t : Throughout} → b ≡ bit (here .marks) i → t ≡ f p

@@ -3,7 +3,7 @@ pub mod Search
 pub mod Bits
 pub mod Ranged
 pub mod Known
-pub mod Sums
+pub mod SentenceSums
 pub mod Steps
 pub mod Untils
 pub mod Marks

@@ -7,14 +7,14 @@ use native.Mathlib.Omega.{arith}
 use borrow.Author.Tests.{lt-ltb, le-ltb}
 use lib.Dec.{ltb}
 use lib.ListN.{length}
-use Rattle.integer.specs.All.{from}
-use Rattle.plan.specs.Cases.{Items}
+use Rattle.laws.specs.All.{from}
+use Rattle.items.specs.Lists.{Items}
 use Rattle.meaning.specs.Judged.{startOf, Mark, marksOf}
-use Rattle.verdict.specs.Verdict.{Found, nowhere, at, firstNot, right}
+use Rattle.verdict.specs.Verdict.{Found, nowhere, at, firstNot, markRight}
 use Rattle.guards.specs.declared.Search.{Search}
 use Rattle.guards.specs.declared.Search.the-variants.{Nowhere, At}
 use Rattle.marks.specs.Wrong.{firstOff, wrongOf, toldMark}
-use Rattle.guards.specs.Found.{orElse, found, found-start, found-turn, found-end}
+use Rattle.guards.specs.Found.{elseFound, found, found-start, found-turn, found-end}
 
 -- ---- a row, which has a k for each number k
 
@@ -50,21 +50,21 @@ module _ (x : Items) where
 
   -- what the search for a wrong mark finds from sentence i on
   abbrev pub rowsFrom : ℕ → Search
-  rowsFrom i = toldMark (found (right x (startOf x)) (rowAt x) n i)
+  rowsFrom i = toldMark (found (markRight x (startOf x)) (rowAt x) n i)
 
-  pub rows-start : toldMark (firstNot (right x (startOf x)) (marksOf x)) ≡ rowsFrom 0
-  rows-start = ap toldMark (found-start (right x (startOf x)) (rowAt x) n)
+  pub rows-start : toldMark (firstNot (markRight x (startOf x)) (marksOf x)) ≡ rowsFrom 0
+  rows-start = ap toldMark (found-start (markRight x (startOf x)) (rowAt x) n)
 
   pub rows-end : (i : ℕ) → n ≤ i → rowsFrom i ≡ Nowhere
-  rows-end i h = ap toldMark (found-end (right x (startOf x)) (rowAt x) n i h)
+  rows-end i h = ap toldMark (found-end (markRight x (startOf x)) (rowAt x) n i h)
 
   -- where p is the first place at which sentence i is marked wrongly: it is found, or there is none and the sentence is passed over
   module _ (i : ℕ) (h : i < n) {p : ℕ} (e : p ≡ wrongOf x i) where
-    row-is : firstNot (right x (startOf x)) (rowAt x i) ≡ cond (ltb p (length (x .places))) (at (markNo i p)) nowhere
-    row-is = rw e (row-first (right x (startOf x)) (markNo i) 0 (length (x .places)) (length (x .places)) (omega arith))
+    row-is : firstNot (markRight x (startOf x)) (rowAt x i) ≡ cond (ltb p (length (x .places))) (at (markNo i p)) nowhere
+    row-is = rw e (row-first (markRight x (startOf x)) (markNo i) 0 (length (x .places)) (length (x .places)) (omega arith))
 
-    rows-turn : rowsFrom i ≡ toldMark (orElse (cond (ltb p (length (x .places))) (at (markNo i p)) nowhere) (found (right x (startOf x)) (rowAt x) n (i + 1)))
-    rows-turn = ap toldMark (found-turn (right x (startOf x)) (rowAt x) n i h) ∙ rw row-is
+    rows-turn : rowsFrom i ≡ toldMark (elseFound (cond (ltb p (length (x .places))) (at (markNo i p)) nowhere) (found (markRight x (startOf x)) (rowAt x) n (i + 1)))
+    rows-turn = ap toldMark (found-turn (markRight x (startOf x)) (rowAt x) n i h) ∙ rw row-is
 
     pub rows-here : p < length (x .places) → rowsFrom i ≡ At (record { 0 = p }) i
     rows-here l = rows-turn ∙ rw (lt-ltb p (length (x .places)) l)

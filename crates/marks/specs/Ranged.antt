@@ -7,28 +7,28 @@ use native.Mathlib.Omega.{arith}
 use lib.IntN.{ℤ, pos, negℤ}
 use lib.Signed.{ltZ}
 use lib.ListN.{getD, List·getD-eq-default}
-use Rattle.integer.specs.Order.{lt-false}
-use Rattle.integer.specs.Sums.{le-in}
-use Rattle.integer.specs.Sizes.{size, add-size, Within, within-size}
-use Rattle.integer.specs.Tests.{cond-by, neither}
-use Rattle.faults.specs.Faults.{beyond}
-use Rattle.plan.specs.declared.Case.{Case}
-use Rattle.plan.specs.Cases.{itemsOf, noItem}
-use Rattle.best.specs.Bounds.{Light}
+use Rattle.laws.specs.Order.{lt-false}
+use Rattle.laws.specs.Arithmetic.{le-in}
+use Rattle.laws.specs.Sizes.{size, add-size, Within, within-size}
+use Rattle.laws.specs.Tests.{cond-by, neither}
+use Rattle.checks.specs.Faults.{beyond}
+use Rattle.collector.specs.declared.Case.{Case}
+use Rattle.collector.specs.Cases.{itemsOf}
+use Rattle.items.specs.Lists.{noItem}
+use Rattle.maxplus.specs.Bounds.{Light}
 use Rattle.record.specs.declared.Content.the-variants.{Number}
 use Rattle.kinds.specs.declared.Kind.the-variants as kind
-use Rattle.kinds.specs.Table.{between, ruleAt, shapeOf}
-
+use Rattle.kinds.specs.Table.{fromTo, ruleAt, shapeOf}
 use Rattle.items.specs.declared.Term.{Term}
 use Rattle.items.specs.declared.Term.the-variants as term
 use Rattle.items.specs.declared.Form.{Form}
 use Rattle.items.specs.declared.Form.the-variants as form
 use Rattle.items.specs.declared.Sentence.{Sentence}
 use Rattle.items.specs.Items.{rowOf}
-use Rattle.rules.specs.Sound.{Sound, Fit}
-use Rattle.rules.specs.Fields.{met}
-use Rattle.rules.specs.Held.{counted}
-use Rattle.meaning.specs.Labels.{worth, weightOf, labelOf}
+use Rattle.collector.specs.Sound.{Sound, Fit}
+use Rattle.rules_laws.specs.Fields.{met}
+use Rattle.rules_laws.specs.Held.{counted}
+use Rattle.verdict.specs.Labels.{worth, weightOf, labelOf}
 
 -- a term with a coefficient from -999 to 999
 abbrev pub Mild : Term → Type 0
@@ -49,7 +49,7 @@ Ranged (form.Until a b z t u) = Mild t × Mild u
 
 -- a field with a coefficient
 abbrev InRange : ℤ → Type 0
-InRange z = beyond (between (negℤ (pos 999)) (pos 999)) (Number z) ≡ false
+InRange z = beyond (fromTo (negℤ (pos 999)) (pos 999)) (Number z) ≡ false
 
 within : (z : ℤ) → InRange z → Within 999 z
 within z e =

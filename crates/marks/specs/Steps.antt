@@ -11,17 +11,17 @@ use lib.Seq.{getD-set-same, getD-set-other, ext-getD}
 use lib.Dec.{eqb}
 use borrow.Author.Tests.{eqb-true, eqb-false}
 use lib.IntN.{ℤ, pos}
-use Rattle.integer.specs.Tab.{tab, length-tab}
+use Rattle.laws.specs.Tab.{tab, length-tab}
 use Rattle.kinds.specs.declared.Kind.the-variants as kind
 use Rattle.items.specs.declared.Term.{Term}
-use Rattle.plan.specs.Cases.{Items, roomOf}
-use Rattle.meaning.specs.Labels.{Label, weightOf}
+use Rattle.items.specs.Lists.{Items, roomOf}
+use Rattle.verdict.specs.Labels.{Label, weightOf}
 use Rattle.meaning.specs.Judged.{marked}
-use Rattle.best.specs.declared.Steps.{Steps}
-use Rattle.best.specs.Numbers.{none, nth, choiceBy, stopOf, goOf}
-use Rattle.best.specs.Shows.{StepsAre}
-use Rattle.forward.specs.Entries.{entry}
-use Rattle.forward.specs.Reads.{at-left}
+use Rattle.maxplus.specs.declared.Steps.{Steps}
+use Rattle.maxplus.specs.Numbers.{none, nth, choiceBy, stopOf, goOf}
+use Rattle.maxplus.specs.Shows.{StepsAre}
+use Rattle.tables.specs.Entries.{entry}
+use Rattle.tables.specs.Reads.{at-left}
 use Rattle.marks.specs.Wrong.{stepsOf}
 use Rattle.marks.specs.Bits.{unmarked}
 

@@ -11,22 +11,22 @@ use lib.Signed.{leZ}
 use mir.Syntax.{w64}
 use mir.Val.{toZ, ofZ}
 use borrow.Author.Tests.{le-leb, lt-leb}
-use Rattle.integer.specs.Sizes.{size, size-read}
-use Rattle.integer.specs.Down.{down-more}
+use Rattle.laws.specs.Sizes.{size, size-read}
+use Rattle.laws.specs.Down.{down-more}
 use Rattle.kinds.specs.declared.Kind.the-variants as kind
 use Rattle.items.specs.declared.LoopMark.{LoopMark}
 use Rattle.items.specs.declared.Place.{Place}
-use Rattle.plan.specs.Cases.{Items, roomOf}
-use Rattle.meaning.specs.Labels.{Label}
+use Rattle.items.specs.Lists.{Items, roomOf}
+use Rattle.verdict.specs.Labels.{Label}
 use Rattle.meaning.specs.Run.{stretch}
-use Rattle.meaning.specs.Facts.{Facts}
+use Rattle.meaning_laws.specs.Facts.{Facts}
 use Rattle.verdict.specs.Best as best
 use Rattle.verdict.specs.Rounds.{firstOf, loopOf, isLast, roundsOf, agree}
-use Rattle.verdict.specs.Best.{Best, Front, step, chain, whole, onFirst, onLast, frontBy, front}
-use Rattle.best.specs.Numbers.{none, stopOf, goOf, stepBy, aroundBy}
-use Rattle.best.specs.Bounds.{Light, Few, small, Tame}
-use Rattle.best.specs.Stretches.{stretch-room, stretch-few}
-use Rattle.best.specs.Shows.{Shows, stretchFar, placeFar, shows-none, shows-step, shows-small, shows-bound, shows-wider, shows-around, StepsAre, steps-tame}
+use Rattle.verdict.specs.Best.{Best, Front, step, chain, wholeSum, onFirst, onLast, frontBy, front}
+use Rattle.maxplus.specs.Numbers.{none, stopOf, goOf, stepBy, aroundBy}
+use Rattle.maxplus.specs.Bounds.{Light, Few, small, Tame}
+use Rattle.maxplus.specs.Stretches.{stretch-room, stretch-few}
+use Rattle.maxplus.specs.Shows.{Shows, stretchFar, placeFar, shows-none, shows-step, shows-small, shows-bound, shows-wider, shows-around, StepsAre, steps-tame}
 use Rattle.marks.specs.Wrong.{untilsOf}
 
 -- u and v show the best sums of a place
@@ -45,7 +45,7 @@ both-read p q k = rw (p, q) k
 abbrev afterBy : (ℕ → Label) → List Place → ℕ → Front → Front
 afterBy l ps p y =
     let a = chain l (firstOf ps p) (stretch (loopOf ps p)) best.None in
-    let s = whole l (firstOf ps p) (stretch (loopOf ps p)) in
+    let s = wholeSum l (firstOf ps p) (stretch (loopOf ps p)) in
     let r = roundsOf (loopOf ps p) in
     cond (isLast ps p) (record { first = onFirst r a s (y .first); last = onLast r a s (y .first) }) y
 

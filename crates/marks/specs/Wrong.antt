@@ -3,21 +3,21 @@ use mathlib.Core.Bool.{Bool, true, false, cond, not, _&&_}
 use Prim.Native.Nat.{ℕ, zero, suc, _-_}
 use lib.IntN.{ℤ}
 use lib.ListN.{length, getD}
-use Rattle.integer.specs.Tab.{tab}
+use Rattle.laws.specs.Tab.{tab}
 use Rattle.kinds.specs.declared.Kind.the-variants as kind
 use Rattle.items.specs.declared.Form.{Form}
 use Rattle.items.specs.declared.Form.the-variants as form
-use Rattle.plan.specs.Cases.{Items, roomOf, noItem}
-use Rattle.meaning.specs.Labels.{Label}
+use Rattle.items.specs.Lists.{Items, roomOf, noItem}
+use Rattle.verdict.specs.Labels.{Label}
 use Rattle.meaning.specs.Truth.{bit}
 use Rattle.meaning.specs.Run.{placeAt}
-use Rattle.meaning.specs.Judged.{startOf, stateOf, marked, Mark}
+use Rattle.meaning.specs.Judged.{startOf, stateAt, marked, Mark}
 use Rattle.verdict.specs.declared.Throughout.{Throughout}
 use Rattle.verdict.specs.Rounds.{flag}
 use Rattle.verdict.specs.Best.{front}
 use Rattle.verdict.specs.Verdict.{Found, nowhere, at, untilThrough, formThrough, isAlways, isNever}
-use Rattle.best.specs.declared.Steps.{Steps}
-use Rattle.best.specs.Numbers.{stopOf, goOf}
+use Rattle.maxplus.specs.declared.Steps.{Steps}
+use Rattle.maxplus.specs.Numbers.{stopOf, goOf}
 use Rattle.guards.specs.declared.Search.{Search}
 use Rattle.guards.specs.declared.Search.the-variants.{Nowhere, At}
 
@@ -64,7 +64,7 @@ sameAlways (form.Until a b z t u) s m = false
 
 -- and over the rounds of place p
 abbrev pub simpleThrough : Items → Form → ℕ → Throughout
-simpleThrough x φ p = flag (sameAlways φ (getD (x .states) (stateOf x p) (noItem kind.State) .propositions) (placeAt (x .places) p .marks))
+simpleThrough x φ p = flag (sameAlways φ (getD (x .states) (stateAt x p) (noItem kind.State) .propositions) (placeAt (x .places) p .marks))
 
 -- ---- what a search for a wrong mark found
 

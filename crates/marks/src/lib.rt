@@ -4,28 +4,29 @@ ghost use mathlib.Core.Bool.{cond};
 ghost use Prim.Native.Nat.{suc, _+_, _≤_, _<_};
 ghost use lib.Dec.{leb};
 ghost use Rattle.kinds.specs.declared.Kind.the-variants as kind;
-ghost use Rattle.plan.specs.Cases.{itemsOf, roomOf};
-ghost use Rattle.rules.specs.Sound.{Sound};
+ghost use Rattle.collector.specs.Cases.{itemsOf};
+ghost use Rattle.items.specs.Lists.{roomOf};
+ghost use Rattle.collector.specs.Sound.{Sound};
 ghost use Rattle.meaning.specs.Run.{guardAt, stretch};
 ghost use Rattle.meaning.specs.Truth.{bit};
 ghost use Rattle.meaning.specs.Judged.{startOf, marked, marksOf};
-ghost use Rattle.meaning.specs.Labels.{worth, labelOf};
+ghost use Rattle.verdict.specs.Labels.{worth, labelOf};
 ghost use Rattle.verdict.specs.Rounds.{roundsOf, flag};
-ghost use Rattle.verdict.specs.Verdict.{firstNot, guardThrough, nextBy, nextThrough, isAlways, isNever, right};
-ghost use Rattle.forward.specs.Tables.{firstsOf, tablesOf};
+ghost use Rattle.verdict.specs.Verdict.{firstNot, guardThrough, nextBy, nextThrough, isAlways, isNever, markRight};
+ghost use Rattle.tables.specs.Tables.{firstsOf, tablesOf};
 ghost use Rattle.marks.specs.Wrong.{wrongIn, sameAlways, simpleThrough, untilsOf, stepsOf, toldMark};
 ghost use Rattle.marks.specs.Ranged.{Mild};
-use best::Steps;
-use forward::Firsts;
-use forward::Tables;
+use collector::Case;
 use guards::Search;
 use items::Form;
 use items::Guard;
 use items::LoopMark;
+use items::PlaceNo;
 use items::Term;
 use kinds::PerCounter;
-use plan::Case;
-use plan::PlaceNo;
+use maxplus::Steps;
+use tables::Firsts;
+use tables::Tables;
 use verdict::Rounds;
 use verdict::Throughout;
 
@@ -34,9 +35,9 @@ fn is_right(t: Throughout, marked: bool) -> bool
     ensures { λ r. ⌜ r ≡ cond marked (isAlways t) (isNever t) ⌝ }
 {
     if marked {
-        return lines::is_always(t);
+        return rounds::is_always(t);
     }
-    lines::is_never(t)
+    rounds::is_never(t)
 }
 
 // A guard, and one that is always true where there is none.
@@ -74,7 +75,7 @@ fn guard_wrong(c: Case, t: Tables, i: u8, g: u8) -> usize
         let base = bases.at[p];
         let drift = drifts.at[p];
         let place = c.places[p];
-        let t = guards::guard_through(guard, base, drift, false, lines::rounds_of(mark));
+        let t = guards::guard_through(guard, base, drift, false, rounds::rounds_of(mark));
         if is_right(t, guards::bit(place.marks, i)) {
             p = p + 1;
         } else {
@@ -108,15 +109,15 @@ fn steps_of(c: Case, a: u8, b: u8, t: Term, u: Term) -> Steps
     ensures { λ r. ⌜ r ≡ stepsOf (labelOf (marked (itemsOf c)) a b t u) ⌝ }
 {
     let n = c.count.places;
-    let mut stops = [best::NONE; Case::PLACES];
-    let mut goes = [best::NONE; Case::PLACES];
+    let mut stops = [maxplus::NONE; Case::PLACES];
+    let mut goes = [maxplus::NONE; Case::PLACES];
     let mut p: usize = 0;
     while p < n {
         let place = c.places[p];
         let marks = place.marks;
         let weight = (worth(marks, t) as i64) + (worth(marks, u) as i64);
-        stops[p] = best::choice(guards::bit(marks, b), 0);
-        goes[p] = best::choice(guards::bit(marks, a), weight);
+        stops[p] = maxplus::choice(guards::bit(marks, b), 0);
+        goes[p] = maxplus::choice(guards::bit(marks, a), weight);
         p = p + 1;
     }
     Steps {
@@ -134,26 +135,26 @@ fn until_wrong(c: Case, firsts: Firsts, i: u8, a: u8, b: u8, bound: i32, t: Term
     let z = bound as i64;
     let n = c.count.places;
     let mut wrong = n;
-    let mut first = best::NONE;
-    let mut last = best::NONE;
+    let mut first = maxplus::NONE;
+    let mut last = maxplus::NONE;
     let mut p = n;
     while 0 < p {
         p = p - 1;
         let q = firsts.at[p] as usize;
         let begin = c.places[q];
         let mark = begin.mark;
-        if q + lines::stretch(mark) <= p + 1 {
-            let ends = best::around(&steps.stops, &steps.goes, q, mark, first);
+        if q + rounds::stretch(mark) <= p + 1 {
+            let ends = maxplus::around(&steps.stops, &steps.goes, q, mark, first);
             first = ends.first;
             last = ends.last;
         }
         let stop = steps.stops[p];
         let go = steps.goes[p];
-        first = best::step(stop, go, first);
-        last = best::step(stop, go, last);
+        first = maxplus::step(stop, go, first);
+        last = maxplus::step(stop, go, last);
         let here = c.places[p];
         if !is_right(
-            lines::agree(z <= first, z <= last),
+            rounds::agree(z <= first, z <= last),
             guards::bit(here.marks, i),
         ) {
             wrong = p;
@@ -167,14 +168,14 @@ fn next_by(r: Rounds, again: bool, out: bool) -> Throughout
     ensures { λ t. ⌜ t ≡ nextBy r again out ⌝ }
 {
     match r {
-        Rounds::None => lines::flag(out),
+        Rounds::None => rounds::flag(out),
         Rounds::UpTo(k) => {
             if k == 0 {
-                return lines::flag(out);
+                return rounds::flag(out);
             }
-            lines::agree(again, out)
+            rounds::agree(again, out)
         }
-        Rounds::Ever => lines::flag(again),
+        Rounds::Ever => rounds::flag(again),
     }
 }
 
@@ -183,10 +184,10 @@ fn next_through(p: usize, q: usize, mark: LoopMark, again: bool, out: bool) -> T
     requires { ⌜ (p < roomOf kind.Place) × (q + stretch mark ≤ roomOf kind.Place) ⌝ }
     ensures { λ r. ⌜ r ≡ cond (leb (q + stretch mark) (suc p)) (nextBy (roundsOf mark) again out) (flag out) ⌝ }
 {
-    if q + lines::stretch(mark) <= p + 1 {
-        return next_by(lines::rounds_of(mark), again, out);
+    if q + rounds::stretch(mark) <= p + 1 {
+        return next_by(rounds::rounds_of(mark), again, out);
     }
-    lines::flag(out)
+    rounds::flag(out)
 }
 
 // The first place at which sentence i, next a, is marked wrongly: from the last place to the first.
@@ -250,7 +251,7 @@ fn simple_wrong(c: Case, i: u8, form: Form) -> usize
         let place = c.places[p];
         let s = place.state as usize;
         let state = c.states[s];
-        let t = lines::flag(same_always(form, state.propositions, place.marks));
+        let t = rounds::flag(same_always(form, state.propositions, place.marks));
         if is_right(t, guards::bit(place.marks, i)) {
             p = p + 1;
         } else {
@@ -263,7 +264,7 @@ fn simple_wrong(c: Case, i: u8, form: Form) -> usize
 // The first wrong mark: by sentence, then by place.
 pub fn wrong_mark(c: Case, t: Tables) -> Search
     requires { ⌜ (Sound c) × (t ≡ tablesOf (itemsOf c)) ⌝ }
-    ensures { λ r. ⌜ r ≡ toldMark (firstNot (right (itemsOf c) (startOf (itemsOf c))) (marksOf (itemsOf c))) ⌝ }
+    ensures { λ r. ⌜ r ≡ toldMark (firstNot (markRight (itemsOf c) (startOf (itemsOf c))) (marksOf (itemsOf c))) ⌝ }
 {
     let firsts = t.firsts;
     let n = c.count.sentences;

@@ -6,26 +6,26 @@ use mathlib.Core.Bool.{Bool, true, false, cond}
 use Prim.Native.Nat.{ℕ, suc, _+_, _-_, _<_}
 use lib.IntN.{pos}
 use lib.ListN.{length, getD}
-use Rattle.integer.specs.All.{All, First, from, gather}
+use Rattle.laws.specs.All.{All, First, from, gather}
 use Rattle.kinds.specs.declared.Kind.the-variants as kind
-use Rattle.counters.specs.Sum.{Counters}
+use Rattle.counters.specs.Sum.{Valuation}
 use Rattle.items.specs.declared.LoopMark.{LoopMark}
 use Rattle.items.specs.declared.LoopMark.the-variants as mark
 use Rattle.items.specs.declared.Ref.{Ref}
 use Rattle.items.specs.declared.Ref.the-variants as ref
 use Rattle.items.specs.declared.Place.{Place}
-use Rattle.plan.specs.Cases.{Items, noItem}
+use Rattle.items.specs.Lists.{Items, noItem}
+use Rattle.answers.specs.declared.Judgement.{Judgement}
+use Rattle.answers.specs.declared.Judgement.the-variants.{Accepted, Unfinished, WrongStart, Unconnected, GuardFails, WrongMark, RootUnmarked}
 use Rattle.rules.specs.Rules.{Closed}
-use Rattle.rules.specs.Files.{size}
-use Rattle.meaning.specs.declared.Judgement.{Judgement}
-use Rattle.meaning.specs.declared.Judgement.the-variants.{Accepted, Unfinished, WrongStart, Unconnected, GuardFails, WrongMark, RootUnmarked}
-use Rattle.meaning.specs.Run.{Moment, Way, here, stretch, spot, taken, moveNo, moveOf, counters, placeAt, guardAt, guardsOf, Meets}
+use Rattle.rules.specs.Files.{itemCount}
+use Rattle.meaning.specs.Run.{Moment, Way, here, stretch, spot, wayTaken, moveNo, moveBy, countersAt, placeAt, guardAt, guardsOf, Meets}
 use Rattle.meaning.specs.Truth.{Trace, bit, True}
 
 -- ---- the case
 
 -- the counters at the start of a run of the case: all are 0 (document 01)
-unfoldable pub startOf : Items → Counters
+unfoldable pub startOf : Items → Valuation
 startOf x j = pos 0
 
 -- 24 doesn't apply: there is a sentence, and the endless loop has closed
@@ -33,8 +33,8 @@ abbrev pub Finished : Items → Type 0
 Finished x = (0 < length (x .sentences)) × Closed x
 
 -- the state of place p
-abbrev pub stateOf : Items → ℕ → ℕ
-stateOf x p = placeAt (x .places) p .state
+abbrev pub stateAt : Items → ℕ → ℕ
+stateAt x p = placeAt (x .places) p .state
 
 -- ---- the ways of a plan, and where they connect
 
@@ -58,13 +58,13 @@ abbrev pub waysOf : Items → List Way
 waysOf x = gather (waysInto (x .places)) (from 0 (length (x .places)))
 
 -- the place that a way comes from: the place before, or for a back move the last place of the loop
-abbrev pub before : List Place → Way → ℕ
-before ps w = cond (w .back) (w .place + stretch (placeAt ps (w .place) .mark) - 1) (w .place - 1)
+abbrev pub placeBefore : List Place → Way → ℕ
+placeBefore ps w = cond (w .back) (w .place + stretch (placeAt ps (w .place) .mark) - 1) (w .place - 1)
 
 -- the move of a way leads from the place before to this place
 pub record Connects (x : Items) (w : Way) : Type 0 where
-  pub leaves : moveOf x w .from ≡ stateOf x (before (x .places) w)
-  pub comes : moveOf x w .to ≡ stateOf x (w .place)
+  pub leaves : moveBy x w .from ≡ stateAt x (placeBefore (x .places) w)
+  pub comes : moveBy x w .to ≡ stateAt x (w .place)
 
 -- ---- guards
 
@@ -75,7 +75,7 @@ pub record Test : Type 0 where
 
 -- the guards of all ways: by place, way in before back move, field 7 before 8
 abbrev pub testsOf : Items → List Test
-testsOf x = gather (λ w. map (λ g. record { way = w; guard = g }) (guardsOf (moveOf x w))) (waysOf x)
+testsOf x = gather (λ w. map (λ g. record { way = w; guard = g }) (guardsOf (moveBy x w))) (waysOf x)
 
 -- ---- marks
 
@@ -99,37 +99,37 @@ root x = length (x .sentences) - 1
 -- ---- the run against the case, from given counters at the start
 
 -- what sentences see of the run
-abbrev pub traceOf : Items → Counters → Trace
+abbrev pub traceOf : Items → Valuation → Trace
 traceOf x θ =
     record {
-      propositions = λ m. getD (x .states) (stateOf x (here (spot (x .places) m))) (noItem kind.State) .propositions;
-      counters = counters x θ;
+      propositions = λ m. getD (x .states) (stateAt x (here (spot (x .places) m))) (noItem kind.State) .propositions;
+      counters = countersAt x θ;
     }
 
 -- sentence i is true at moment m of the run
-abbrev pub TrueAt : Items → Counters → ℕ → Moment → Type 0
+abbrev pub TrueAt : Items → Valuation → ℕ → Moment → Type 0
 TrueAt x θ i m = True (x .guards) (x .sentences) (traceOf x θ) i m
 
 -- the guard is met at moment m + 1
-abbrev pub MetAfter : Items → Counters → ℕ → Moment → Type 0
-MetAfter x θ g m = Meets (guardAt (x .guards) g) (counters x θ (suc m))
+abbrev pub MetAfter : Items → Valuation → ℕ → Moment → Type 0
+MetAfter x θ g m = Meets (guardAt (x .guards) g) (countersAt x θ (suc m))
 
 -- the guard holds whenever the way is taken
-pub record Passes (x : Items) (θ : Counters) (t : Test) : Type 0 where
-  pub met : (m : Moment) → taken (x .places) m ≡ t .way → MetAfter x θ (t .guard) m
+pub record Passes (x : Items) (θ : Valuation) (t : Test) : Type 0 where
+  pub met : (m : Moment) → wayTaken (x .places) m ≡ t .way → MetAfter x θ (t .guard) m
 
 -- the guard fails at some moment that the way is taken
-pub record Fails (x : Items) (θ : Counters) (t : Test) : Type 0 where
+pub record Fails (x : Items) (θ : Valuation) (t : Test) : Type 0 where
   pub moment : Moment
-  pub way : taken (x .places) moment ≡ t .way
+  pub way : wayTaken (x .places) moment ≡ t .way
   pub unmet : MetAfter x θ (t .guard) moment → ⊥
 
 -- the mark is as the sentence is, at every moment of the place
-pub record Right (x : Items) (θ : Counters) (k : Mark) : Type 0 where
+pub record Right (x : Items) (θ : Valuation) (k : Mark) : Type 0 where
   pub same : (m : Moment) → here (spot (x .places) m) ≡ k .place → (marked x (k .sentence) (k .place) ≡ true) ↔ TrueAt x θ (k .sentence) m
 
 -- the sentence is marked and not true, or not marked and true, at some moment of the place
-pub record Wrong (x : Items) (θ : Counters) (k : Mark) : Type 0 where
+pub record Wrong (x : Items) (θ : Valuation) (k : Mark) : Type 0 where
   pub moment : Moment
   pub there : here (spot (x .places) moment) ≡ k .place
   pub differs :
@@ -140,28 +140,28 @@ pub record Wrong (x : Items) (θ : Counters) (k : Mark) : Type 0 where
 
 -- neither 24 nor 31 applies
 abbrev pub Started : Items → Type 0
-Started x = Finished x × (stateOf x 0 ≡ 0)
+Started x = Finished x × (stateAt x 0 ≡ 0)
 
 -- nor 32
 abbrev pub Connected : Items → Type 0
 Connected x = Started x × All (Connects x) (waysOf x)
 
 -- nor 33
-abbrev pub Guarded : Items → Counters → Type 0
+abbrev pub Guarded : Items → Valuation → Type 0
 Guarded x θ = Connected x × All (Passes x θ) (testsOf x)
 
 -- nor 34
-abbrev pub Labelled : Items → Counters → Type 0
+abbrev pub Labelled : Items → Valuation → Type 0
 Labelled x θ = Guarded x θ × All (Right x θ) (marksOf x)
 
 -- the case is accepted: none of 24 and 31 to 35 applies
-abbrev pub IsAccepted : Items → Counters → Type 0
+abbrev pub IsAccepted : Items → Valuation → Type 0
 IsAccepted x θ = Labelled x θ × (marked x (root x) 0 ≡ true)
 
 -- what an answer says of a case: it is the first that applies
-abbrev pub Judged : Items → Counters → Judgement → Type 0
-Judged x θ (Unfinished n) = (Finished x → ⊥) × (n ≡ size x)
-Judged x θ WrongStart = Finished x × (stateOf x 0 ≡ 0 → ⊥)
+abbrev pub Judged : Items → Valuation → Judgement → Type 0
+Judged x θ (Unfinished n) = (Finished x → ⊥) × (n ≡ itemCount x)
+Judged x θ WrongStart = Finished x × (stateAt x 0 ≡ 0 → ⊥)
 Judged x θ (Unconnected p t) =
     Started x × ((w : Way) × First (Connects x) (λ v. Connects x v → ⊥) (waysOf x) w × (w .place ≡ p .0) × (moveNo (x .places) w ≡ ref.At t))
 Judged x θ (GuardFails p g) =
@@ -172,19 +172,3 @@ Judged x θ (RootUnmarked r) = Labelled x θ × (marked x (root x) 0 ≡ false) 
 Judged x θ Accepted = IsAccepted x θ
 
 -- ---- the numbers of an answer
-
--- document 01's three numbers
-pub record Numbers : Type 0 where
-  pub result : ℕ
-  pub second : ℕ
-  pub third : ℕ
-
--- the numbers of each answer
-abbrev pub numbersOf : Judgement → Numbers
-numbersOf Accepted = record { result = 0; second = 0; third = 0 }
-numbersOf (Unfinished n) = record { result = 24; second = n; third = 0 }
-numbersOf WrongStart = record { result = 31; second = 0; third = 0 }
-numbersOf (Unconnected p t) = record { result = 32; second = p .0; third = t }
-numbersOf (GuardFails p g) = record { result = 33; second = p .0; third = g }
-numbersOf (WrongMark p i) = record { result = 34; second = p .0; third = i }
-numbersOf (RootUnmarked r) = record { result = 35; second = 0; third = r }

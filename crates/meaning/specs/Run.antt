@@ -1,15 +1,16 @@
 -- The run of a plan: where it is at each moment, by which way it came there, and its counters. It doesn't ask for a closed plan.
 -- Document 01's words and the field's: a move is a transition, a place a state of the path schema, a moment a position on the run,
 -- the counters a valuation.
+use mathlib.Core.Path.{_≡_}
 use mathlib.Core.List.{List, [], _∷_, _++_}
 use mathlib.Core.Bool.{Bool, true, false, cond}
-use Prim.Native.Nat.{ℕ, zero, suc, _+_}
+use Prim.Native.Nat.{ℕ, zero, suc, _+_, _<_}
 use lib.Dec.{ltb}
 use lib.IntN.{ℤ, pos, _+ℤ_}
 use lib.Signed.{_≤ℤ_}
-use lib.ListN.{getD}
+use lib.ListN.{getD, length}
 use Rattle.kinds.specs.declared.Kind.the-variants as kind
-use Rattle.counters.specs.Sum.{Counters, sum}
+use Rattle.counters.specs.Sum.{Valuation, sum}
 use Rattle.items.specs.declared.Ref.{Ref}
 use Rattle.items.specs.declared.Ref.the-variants as ref
 use Rattle.items.specs.declared.LoopMark.{LoopMark}
@@ -17,8 +18,8 @@ use Rattle.items.specs.declared.LoopMark.the-variants as mark
 use Rattle.items.specs.declared.Guard.{Guard}
 use Rattle.items.specs.declared.Move.{Move}
 use Rattle.items.specs.declared.Place.{Place}
-use Rattle.plan.specs.Cases.{Items, noItem}
-use Rattle.rules.specs.Rules.{markAt}
+use Rattle.items.specs.Lists.{Items, noItem}
+use Rattle.rules.specs.Rules.{markAt, isEndless}
 
 -- ---- where it is
 
@@ -44,10 +45,10 @@ stretch (mark.Counted l n b) = l
 stretch (mark.Endless l b) = l
 
 -- whether a stretch is gone through once more after round r
-abbrev pub again : LoopMark → ℕ → Bool
-again mark.None r = false
-again (mark.Counted l n b) r = ltb (r + 1) n
-again (mark.Endless l b) r = true
+abbrev pub goesAgain : LoopMark → ℕ → Bool
+goesAgain mark.None r = false
+goesAgain (mark.Counted l n b) r = ltb (r + 1) n
+goesAgain (mark.Endless l b) r = true
 
 -- a step of the run: to where, and whether by a back move
 pub record Step : Type 0 where
@@ -60,7 +61,7 @@ next ps x =
     let m = markAt ps (x .first) in
     cond (ltb (x .step + 1) (stretch m))
     (record { to = record { first = x .first; step = x .step + 1; round = x .round }; back = false })
-    (cond (again m (x .round))
+    (cond (goesAgain m (x .round))
     (record { to = record { first = x .first; step = 0; round = x .round + 1 }; back = true })
     (record { to = record { first = x .first + stretch m; step = 0; round = 0 }; back = false }))
 
@@ -77,8 +78,8 @@ pub record Way : Type 0 where
   pub back : Bool
 
 -- the way that is taken from moment m to moment m + 1
-abbrev pub taken : List Place → Moment → Way
-taken ps m = record { place = here (spot ps (suc m)); back = next ps (spot ps m) .back }
+abbrev pub wayTaken : List Place → Moment → Way
+wayTaken ps m = record { place = here (spot ps (suc m)); back = next ps (spot ps m) .back }
 
 -- the back move of a loop
 abbrev pub backOf : LoopMark → Ref
@@ -100,8 +101,8 @@ moveAt ts ref.None = noItem kind.Move
 moveAt ts (ref.At t) = getD ts t (noItem kind.Move)
 
 -- the move of a way
-abbrev pub moveOf : Items → Way → Move
-moveOf x w = moveAt (x .moves) (moveNo (x .places) w)
+abbrev pub moveBy : Items → Way → Move
+moveBy x w = moveAt (x .moves) (moveNo (x .places) w)
 
 -- ---- its counters
 
@@ -110,14 +111,14 @@ abbrev pub update : Move → ℕ → ℤ
 update t j = getD (t .updates .at) j (pos 0)
 
 -- the counters at a moment, from given ones at the start: each move taken adds its updates
-unfoldable pub counters : Items → Counters → Moment → Counters
-counters x start zero j = start j
-counters x start (suc m) j = counters x start m j +ℤ update (moveOf x (taken (x .places) m)) j
+unfoldable pub countersAt : Items → Valuation → Moment → Valuation
+countersAt x start zero j = start j
+countersAt x start (suc m) j = countersAt x start m j +ℤ update (moveBy x (wayTaken (x .places) m)) j
 
 -- ---- guards
 
 -- a guard is true where the sum of coefficient times counter is at least the bound
-abbrev pub Meets : Guard → Counters → Type 0
+abbrev pub Meets : Guard → Valuation → Type 0
 Meets g θ = g .bound ≤ℤ sum (g .coefficients .at) θ
 
 -- guard g, and one that is always true where there is none
@@ -132,3 +133,8 @@ named (ref.At n) = n ∷ []
 -- the guards of a move, in order
 abbrev pub guardsOf : Move → List ℕ
 guardsOf t = named (t .guard1) ++ named (t .guard2)
+
+-- a moment before the end of the endless loop's first round: the run is at a place of the plan, and in the endless loop only in its first round
+pub record Early (ps : List Place) (m : Moment) : Type 0 where
+  pub held : here (spot ps m) < length ps
+  pub first-round : isEndless (markAt ps (spot ps m .first)) ≡ true → spot ps m .round ≡ 0

@@ -9,20 +9,20 @@ use lib.IntN.{ℤ, pos, _+ℤ_}
 use lib.Signed.{_≤ℤ_}
 use lib.ListN.{getD}
 use Rattle.kinds.specs.declared.Kind.the-variants as kind
-use Rattle.counters.specs.Sum.{Counters}
+use Rattle.counters.specs.Sum.{Valuation}
 use Rattle.items.specs.declared.Term.{Term}
 use Rattle.items.specs.declared.Term.the-variants as term
 use Rattle.items.specs.declared.Form.{Form}
 use Rattle.items.specs.declared.Form.the-variants as form
 use Rattle.items.specs.declared.Guard.{Guard}
 use Rattle.items.specs.declared.Sentence.{Sentence}
-use Rattle.plan.specs.Cases.{noItem}
+use Rattle.items.specs.Lists.{noItem}
 use Rattle.meaning.specs.Run.{Moment, Meets, guardAt}
 
 -- what sentences can see of a run: at each moment the propositions, as a bit set, and the counters
 pub record Trace : Type 0 where
   pub propositions : Moment → ℕ
-  pub counters : Moment → Counters
+  pub counters : Moment → Valuation
 
 -- bit i of a set
 unfoldable pub bit : ℕ → ℕ → Bool
@@ -59,9 +59,9 @@ pub record Until (Held Goal : Moment → Type 0) (bound : ℤ) (ts : List Counte
 -- ---- sentences
 
 -- a term of a sentence, if there is one, where True tells the truth of the sentences
-abbrev pub counted : (ℕ → Moment → Type 0) → Term → List Counted
-counted True term.None = []
-counted True (term.Some c s) = record { coefficient = c; Counts = True s } ∷ []
+abbrev pub countedTerms : (ℕ → Moment → Type 0) → Term → List Counted
+countedTerms True term.None = []
+countedTerms True (term.Some c s) = record { coefficient = c; Counts = True s } ∷ []
 
 -- what a form says of moment i, where True tells the truth of the sentences that it refers to
 abbrev pub Says : List Guard → Trace → (ℕ → Moment → Type 0) → Form → Moment → Type 0
@@ -71,7 +71,7 @@ Says gs t True (form.Guard g) i = Meets (guardAt gs g) (t .counters i)
 Says gs t True (form.And a b) i = True a i × True b i
 Says gs t True (form.Not a) i = True a i → ⊥
 Says gs t True (form.Next a) i = True a (suc i)
-Says gs t True (form.Until a b z u v) i = Until (True a) (True b) z (counted True u ++ counted True v) i
+Says gs t True (form.Until a b z u v) i = Until (True a) (True b) z (countedTerms True u ++ countedTerms True v) i
 
 -- the truth of the sentences below number n
 unfoldable pub TrueBelow : List Guard → List Sentence → Trace → ℕ → ℕ → Moment → Type 0

@@ -1,13 +1,13 @@
 // Reads a case from standard input and prints the line of its answer. No contract can say what a call of the system reads or writes, so the program
 // only reads, calls the library and writes.
 ghost use Rattle.io.specs.Counts.{Counts};
+use answers::Told;
 use casefile::ENOUGH;
 use casefile::answer;
 use libc::EINTR;
 use libc::STDIN_FILENO;
 use libc::STDOUT_FILENO;
-use line::Told;
-use line::line_of;
+use output::line_of;
 
 // What was read: how many bytes, and whether a read failed.
 struct Input {

@@ -3,7 +3,7 @@ use mathlib.Core.Path.{_≡_, ap}
 use mathlib.Core.List.{List}
 use Prim.Native.Nat.{ℕ, _-_, _<_}
 use lib.ListN.{getD}
-use Rattle.integer.specs.Lists.{nth-is}
+use Rattle.laws.specs.Lists.{nth-is}
 use Rattle.record.specs.declared.Content.the-variants.{Blank}
 use Rattle.record.specs.declared.Field.{Field}
 use Rattle.record.specs.Layout.{at}

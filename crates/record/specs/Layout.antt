@@ -1,9 +1,9 @@
 -- Where a record has its letter, its fields and its line feed.
-use mathlib.Core.List.{List, []}
+use mathlib.Core.List.{List, [], _∷_}
 use Prim.Native.Nat.{ℕ, zero, suc, _+_, _*_}
-use lib.ListN.{take, drop}
-use Rattle.integer.specs.Lists.{nth}
-use Rattle.integer.specs.Tab.{tab}
+use lib.ListN.{take, drop, length}
+use Rattle.laws.specs.Lists.{nth}
+use Rattle.laws.specs.Tab.{tab}
 use Rattle.record.specs.declared.Content.the-variants.{Blank}
 use Rattle.record.specs.declared.Content.{Content}
 use Rattle.record.specs.declared.Field.{Field}
@@ -42,3 +42,13 @@ recordOf bs = record { fields = tab fields 1 (fieldAt bs) }
 -- what field f of a row says, counted from 1; blank where there is no such field
 abbrev pub at : List Field → ℕ → Content
 at r f = nth r f (record { content = Blank }) .content
+
+-- a file is a row of records, the last of which may be short; at most n are cut off
+unfoldable pub cutFrom : ℕ → List ℕ → List (List ℕ)
+cutFrom zero bs = []
+cutFrom (suc n) [] = []
+cutFrom (suc n) (b ∷ bs) = take recordLength (b ∷ bs) ∷ cutFrom n (drop recordLength (b ∷ bs))
+
+-- the records of a file
+unfoldable pub cut : List ℕ → List (List ℕ)
+cut bs = cutFrom (length bs) bs

@@ -1,10 +1,14 @@
 -- The one spelling of a number in a field: as many spaces as are left, the sign, the digits.
+use mathlib.Core.Path.{_≡_}
+use mathlib.Core.Logic.{_↔_}
 use mathlib.Core.List.{List, [], _∷_, _++_}
 use mathlib.Core.Bool.{cond}
 use Prim.Native.Nat.{ℕ, zero, suc, _-_, _/_, _%_, _^_, _<_}
 use lib.Dec.{ltb}
 use lib.IntN.{ℤ, pos, negsuc}
 use lib.ListN.{length, replicate}
+use Rattle.record.specs.declared.Content.the-variants.{Bad, Blank, Number}
+use Rattle.record.specs.declared.Content.{Content}
 use Rattle.record.specs.Spelling.{space, minus, digit}
 use Rattle.record.specs.Layout.{width}
 
@@ -32,3 +36,13 @@ spell z = replicate (width - length (token z)) space ++ token z
 abbrev pub Spellable : ℤ → Type 0
 Spellable (pos n) = n < 10 ^ width
 Spellable (negsuc n) = suc n < 10 ^ (width - 1)
+
+-- the bytes of a field are the spelling of z
+abbrev pub IsSpelling : List ℕ → ℤ → Type 0
+IsSpelling bs z = (bs ≡ spell z) × Spellable z
+
+-- what the bytes of a field say: they are blank where they are spaces, a number where they are its spelling, and bad where they are neither
+pub record ReadAs (bs : List ℕ) (c : Content) : Type 0 where
+  pub blank : (c ≡ Blank) ↔ (bs ≡ replicate width space)
+  pub number : (z : ℤ) → (c ≡ Number z) ↔ IsSpelling bs z
+  pub bad : (c ≡ Bad) ↔ ((bs ≡ replicate width space → ⊥) × ((z : ℤ) → IsSpelling bs z → ⊥))

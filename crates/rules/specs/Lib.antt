@@ -1,13 +1,2 @@
 pub mod Rules
-pub mod Tells
-pub mod Sound
 pub mod Files
-pub mod Letters
-pub mod Fields
-pub mod Held
-pub mod Loops
-pub mod Stages
-pub mod First
-pub mod Kept
-pub mod Spelled
-pub mod Theorems

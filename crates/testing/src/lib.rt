@@ -1,16 +1,16 @@
 // What the records of a file are answered, for tests and benchmarks in other languages.
 ghost use mathlib.Core.Path.{_≡_};
-ghost use Rattle.faults.specs.Answers.{numberOf, fieldOf};
-ghost use Rattle.plan.specs.Cases.{emptyCase};
-ghost use Rattle.plan.specs.Taking.{runOf};
+ghost use Rattle.answers.specs.Answers.{numberOf, fieldOf};
+ghost use Rattle.collector.specs.Cases.{emptyCase};
+ghost use Rattle.collector.specs.Taking.{collectedOf};
 ghost use Rattle.casefile.specs.Answer.{answerOf};
 ghost use Rattle.testing.specs.Held.{marksAt};
-use plan::Case;
-use plan::Run;
+use collector::Case;
+use collector::Collected;
 
 // Takes a file into the empty case.
-fn taken(src: &[u8]) -> Run
-    ensures { λ r. ⌜ r ≡ runOf emptyCase (now (src .entry)) ⌝ }
+fn taken(src: &[u8]) -> Collected
+    ensures { λ r. ⌜ r ≡ collectedOf emptyCase (now (src .entry)) ⌝ }
 {
     Case::empty().take_all(src)
 }
@@ -18,7 +18,7 @@ fn taken(src: &[u8]) -> Run
 // The number of the last answer: 0 where every record is taken.
 #[no_mangle]
 pub extern "C" fn result_number(src: &[u8]) -> u8
-    ensures { λ r. ⌜ r ≡ numberOf (runOf emptyCase (now (src .entry)) .answer) ⌝ }
+    ensures { λ r. ⌜ r ≡ numberOf (collectedOf emptyCase (now (src .entry)) .answer) ⌝ }
 {
     let run = taken(src);
     let answer = run.answer;
@@ -28,7 +28,7 @@ pub extern "C" fn result_number(src: &[u8]) -> u8
 // The field that the last answer names.
 #[no_mangle]
 pub extern "C" fn result_field(src: &[u8]) -> u8
-    ensures { λ r. ⌜ r ≡ fieldOf (runOf emptyCase (now (src .entry)) .answer) ⌝ }
+    ensures { λ r. ⌜ r ≡ fieldOf (collectedOf emptyCase (now (src .entry)) .answer) ⌝ }
 {
     let run = taken(src);
     let answer = run.answer;
@@ -38,7 +38,7 @@ pub extern "C" fn result_field(src: &[u8]) -> u8
 // How many records were taken, which is the number of the refused one.
 #[no_mangle]
 pub extern "C" fn result_record(src: &[u8]) -> usize
-    ensures { λ r. ⌜ r ≡ runOf emptyCase (now (src .entry)) .taken ⌝ }
+    ensures { λ r. ⌜ r ≡ collectedOf emptyCase (now (src .entry)) .taken ⌝ }
 {
     let run = taken(src);
     run.taken
@@ -47,7 +47,7 @@ pub extern "C" fn result_record(src: &[u8]) -> usize
 // The marks of one place after a file is taken. A benchmark reads them, so that the stores cannot be left out.
 #[no_mangle]
 pub extern "C" fn marks_held(src: &[u8], i: usize) -> u32
-    ensures { λ r. ⌜ r ≡ marksAt (runOf emptyCase (now (src .entry)) .case) i ⌝ }
+    ensures { λ r. ⌜ r ≡ marksAt (collectedOf emptyCase (now (src .entry)) .case) i ⌝ }
 {
     let run = taken(src);
     let case = run.case;

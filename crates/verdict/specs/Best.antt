@@ -7,7 +7,7 @@ use lib.IntN.{ℤ, pos, _+ℤ_, _*ℤ_}
 use lib.Signed.{leZ}
 use Rattle.items.specs.declared.Place.{Place}
 use Rattle.meaning.specs.Run.{stretch}
-use Rattle.meaning.specs.Labels.{Label}
+use Rattle.verdict.specs.Labels.{Label}
 use Rattle.verdict.specs.declared.Rounds.{Rounds}
 use Rattle.verdict.specs.declared.Rounds.the-variants as rounds
 use Rattle.verdict.specs.Rounds.{firstOf, loopOf, isLast, roundsOf}
@@ -24,10 +24,10 @@ pub record Front : Type 0 where
   pub last : Best
 
 -- whether a bound is reached
-abbrev pub atLeast : ℤ → Best → Bool
-atLeast b None = false
-atLeast b (Sum v) = leZ b v
-atLeast b Any = true
+abbrev pub isReached : ℤ → Best → Bool
+isReached b None = false
+isReached b (Sum v) = leZ b v
+isReached b Any = true
 
 -- w more
 abbrev pub plus : ℤ → Best → Best
@@ -57,9 +57,9 @@ chain l p zero v = v
 chain l p (suc n) v = step (l p) (chain l (suc p) n v)
 
 -- the sum of the n places from p on, where each is held
-unfoldable pub whole : (ℕ → Label) → ℕ → ℕ → Best
-whole l p zero = Sum (pos 0)
-whole l p (suc n) = onward (l p) (whole l (suc p) n)
+unfoldable pub wholeSum : (ℕ → Label) → ℕ → ℕ → Best
+wholeSum l p zero = Sum (pos 0)
+wholeSum l p (suc n) = onward (l p) (wholeSum l (suc p) n)
 
 -- the positive part
 abbrev pub positive : ℤ → ℤ
@@ -97,7 +97,7 @@ frontBy l ps p y =
     let q = firstOf ps p in
     let n = stretch (loopOf ps p) in
     let a = chain l q n None in
-    let s = whole l q n in
+    let s = wholeSum l q n in
     let r = roundsOf (loopOf ps p) in
     cond (isLast ps p)
     (record { first = step (l p) (onFirst r a s (y .first)); last = step (l p) (onLast r a s (y .first)) })

@@ -2,21 +2,21 @@
 use mathlib.Core.Bool.{true, false, cond}
 use Prim.Native.Nat.{ℕ, zero, suc, _+_, _-_}
 use lib.IntN.{ℤ, pos, _+ℤ_, _-ℤ_, _*ℤ_}
-use Rattle.counters.specs.Sum.{Counters}
+use Rattle.counters.specs.Sum.{Valuation}
 use Rattle.items.specs.declared.LoopMark.{LoopMark}
 use Rattle.items.specs.declared.LoopMark.the-variants as mark
-use Rattle.plan.specs.Cases.{Items}
+use Rattle.items.specs.Lists.{Items}
 use Rattle.rules.specs.Rules.{markAt}
-use Rattle.meaning.specs.Run.{stretch, moveOf, update}
+use Rattle.meaning.specs.Run.{stretch, moveBy, update}
 use Rattle.verdict.specs.Rounds.{firstOf, loopOf, isLast}
 
 -- what the way into place p adds to counter j
 abbrev pub inBy : Items → ℕ → ℕ → ℤ
-inBy x j p = update (moveOf x (record { place = p; back = false })) j
+inBy x j p = update (moveBy x (record { place = p; back = false })) j
 
 -- what the back move into place p adds to counter j
 abbrev pub backBy : Items → ℕ → ℕ → ℤ
-backBy x j p = update (moveOf x (record { place = p; back = true })) j
+backBy x j p = update (moveBy x (record { place = p; back = true })) j
 
 -- what the ways into the places 1 to p add
 unfoldable pub ways : Items → ℕ → ℕ → ℤ
@@ -38,6 +38,6 @@ abbrev pub roundsAdd : Items → ℕ → ℕ → ℤ
 roundsAdd x j p = cond (isLast (x .places) p) (pos (repeats (loopOf (x .places) p)) *ℤ drift x j (firstOf (x .places) p)) (pos 0)
 
 -- counter j at place p in its first round
-unfoldable pub base : Items → Counters → ℕ → ℕ → ℤ
+unfoldable pub base : Items → Valuation → ℕ → ℕ → ℤ
 base x θ j zero = θ j
 base x θ j (suc p) = base x θ j p +ℤ roundsAdd x j p +ℤ inBy x j (suc p)

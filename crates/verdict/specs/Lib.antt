@@ -1,14 +1,5 @@
 pub mod Rounds
-pub mod Tells
 pub mod Forward
 pub mod Best
 pub mod Verdict
-pub mod Steps
-pub mod Lines
-pub mod Kept
-pub mod Power
-pub mod Until
-pub mod Search
-pub mod Forms
-pub mod Judge
-pub mod Theorems
+pub mod Labels

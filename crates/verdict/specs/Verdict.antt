@@ -6,33 +6,34 @@ use lib.Dec.{eqb, ltb}
 use lib.IntN.{ℤ, pos, _+ℤ_}
 use lib.ListN.{length, getD}
 use Rattle.kinds.specs.declared.Kind.the-variants as kind
-use Rattle.counters.specs.Sum.{Counters, sum}
+use Rattle.counters.specs.Sum.{Valuation, sum}
 use Rattle.items.specs.declared.Ref.{Ref}
 use Rattle.items.specs.declared.Ref.the-variants as ref
 use Rattle.items.specs.declared.Guard.{Guard}
 use Rattle.items.specs.declared.Form.{Form}
 use Rattle.items.specs.declared.Form.the-variants as form
-use Rattle.plan.specs.Cases.{Items, noItem, noLoops, loopsFrom}
-use Rattle.plan.specs.Taking.{isClosed}
-use Rattle.rules.specs.Files.{size}
-use Rattle.meaning.specs.declared.Judgement.{Judgement}
-use Rattle.meaning.specs.declared.Judgement.the-variants.{Accepted, Unfinished, WrongStart, Unconnected, GuardFails, WrongMark, RootUnmarked}
-use Rattle.meaning.specs.Run.{Way, guardAt, moveNo, moveOf}
+use Rattle.items.specs.Lists.{Items, noItem}
+use Rattle.collector.specs.Cases.{noLoops, loopsFrom}
+use Rattle.collector.specs.Taking.{isClosed}
+use Rattle.rules.specs.Files.{itemCount}
+use Rattle.answers.specs.declared.Judgement.{Judgement}
+use Rattle.answers.specs.declared.Judgement.the-variants.{Accepted, Unfinished, WrongStart, Unconnected, GuardFails, WrongMark, RootUnmarked}
+use Rattle.meaning.specs.Run.{Way, guardAt, moveNo, moveBy}
 use Rattle.meaning.specs.Truth.{bit}
-use Rattle.meaning.specs.Judged.{stateOf, waysOf, before, Test, testsOf, Mark, marksOf, marked, root}
-use Rattle.meaning.specs.Labels.{labelOf}
+use Rattle.meaning.specs.Judged.{stateAt, waysOf, placeBefore, Test, testsOf, Mark, marksOf, marked, root}
+use Rattle.verdict.specs.Labels.{labelOf}
 use Rattle.verdict.specs.declared.Throughout.{Throughout}
 use Rattle.verdict.specs.declared.Throughout.the-variants.{Always, Never, Changes}
 use Rattle.verdict.specs.declared.Rounds.{Rounds}
 use Rattle.verdict.specs.declared.Rounds.the-variants as rounds
 use Rattle.verdict.specs.Rounds.{firstOf, loopOf, isLast, roundsOf, roundsBy, flag, agree, through}
 use Rattle.verdict.specs.Forward.{base, drift}
-use Rattle.verdict.specs.Best.{Front, atLeast, front}
+use Rattle.verdict.specs.Best.{Front, isReached, front}
 
 -- ---- guards over the rounds of a place
 
 -- the sum of a guard at place p in its first round
-abbrev pub firstSum : Items → Counters → Guard → ℕ → ℤ
+abbrev pub firstSum : Items → Valuation → Guard → ℕ → ℤ
 firstSum x θ g p = sum (g .coefficients .at) (λ j. base x θ j p)
 
 -- what each round adds to it
@@ -40,11 +41,11 @@ abbrev pub roundSum : Items → Guard → ℕ → ℤ
 roundSum x g p = sum (g .coefficients .at) (λ j. drift x j (firstOf (x .places) p))
 
 -- a guard over all rounds of a place
-abbrev pub guardThrough : Items → Counters → Guard → ℕ → Throughout
+abbrev pub guardThrough : Items → Valuation → Guard → ℕ → Throughout
 guardThrough x θ g p = through (firstSum x θ g p) (roundSum x g p) (g .bound) (roundsOf (loopOf (x .places) p))
 
 -- a guard over the rounds in which a way is taken: the first is one round later for a back move
-abbrev pub testThrough : Items → Counters → Test → Throughout
+abbrev pub testThrough : Items → Valuation → Test → Throughout
 testThrough x θ t =
     let g = guardAt (x .guards) (t .guard) in
     let p = t .way .place in
@@ -67,12 +68,12 @@ nextThrough x a p =
 
 -- until: by the best sums in the first round and in the last
 abbrev pub untilThrough : ℤ → Front → Throughout
-untilThrough z y = agree (atLeast z (y .first)) (atLeast z (y .last))
+untilThrough z y = agree (isReached z (y .first)) (isReached z (y .last))
 
 -- a sentence of this form at place p
-unfoldable pub formThrough : Items → Counters → Form → ℕ → Throughout
+unfoldable pub formThrough : Items → Valuation → Form → ℕ → Throughout
 formThrough x θ form.True p = Always
-formThrough x θ (form.Proposition v) p = flag (bit (getD (x .states) (stateOf x p) (noItem kind.State) .propositions) v)
+formThrough x θ (form.Proposition v) p = flag (bit (getD (x .states) (stateAt x p) (noItem kind.State) .propositions) v)
 formThrough x θ (form.Guard g) p = guardThrough x θ (guardAt (x .guards) g) p
 formThrough x θ (form.And a b) p = flag (marked x a p && marked x b p)
 formThrough x θ (form.Not a) p = flag (not (marked x a p))
@@ -83,7 +84,7 @@ formThrough x θ (form.Until a b z t u) p = untilThrough z (front (labelOf (mark
 
 -- a way connects
 abbrev pub connects : Items → Way → Bool
-connects x w = eqb (moveOf x w .from) (stateOf x (before (x .places) w)) && eqb (moveOf x w .to) (stateOf x (w .place))
+connects x w = eqb (moveBy x w .from) (stateAt x (placeBefore (x .places) w)) && eqb (moveBy x w .to) (stateAt x (w .place))
 
 -- true throughout
 abbrev pub isAlways : Throughout → Bool
@@ -98,12 +99,12 @@ isNever Never = true
 isNever Changes = false
 
 -- a guard on a way is met whenever the way is taken
-abbrev pub passes : Items → Counters → Test → Bool
+abbrev pub passes : Items → Valuation → Test → Bool
 passes x θ t = isAlways (testThrough x θ t)
 
 -- a mark is right: set, and the sentence is true throughout the place, or not set, and it is false throughout
-abbrev pub right : Items → Counters → Mark → Bool
-right x θ k =
+abbrev pub markRight : Items → Valuation → Mark → Bool
+markRight x θ k =
     let t = formThrough x θ (getD (x .sentences) (k .sentence) (noItem kind.Sentence) .form) (k .place) in
     cond (marked x (k .sentence) (k .place)) (isAlways t) (isNever t)
 
@@ -122,21 +123,21 @@ abbrev pub finished : Items → Bool
 finished x = ltb 0 (length (x .sentences)) && isClosed (loopsFrom noLoops 0 (x .places)) (length (x .places))
 
 -- the number of a reference
-abbrev pub numberOf : Ref → ℕ
-numberOf ref.None = 0
-numberOf (ref.At n) = n
+abbrev pub refNumber : Ref → ℕ
+refNumber ref.None = 0
+refNumber (ref.At n) = n
 
 -- by the tests in their order
-abbrev pub answerBy : Items → Bool → Bool → Found Way → Found Test → Found Mark → Bool → Judgement
-answerBy x false s w t k r = Unfinished (size x)
-answerBy x true false w t k r = WrongStart
-answerBy x true true (at w) t k r = Unconnected (record { 0 = w .place }) (numberOf (moveNo (x .places) w))
-answerBy x true true nowhere (at t) k r = GuardFails (record { 0 = t .way .place }) (t .guard)
-answerBy x true true nowhere nowhere (at k) r = WrongMark (record { 0 = k .place }) (k .sentence)
-answerBy x true true nowhere nowhere nowhere false = RootUnmarked (root x)
-answerBy x true true nowhere nowhere nowhere true = Accepted
+abbrev pub judgementBy : Items → Bool → Bool → Found Way → Found Test → Found Mark → Bool → Judgement
+judgementBy x false s w t k r = Unfinished (itemCount x)
+judgementBy x true false w t k r = WrongStart
+judgementBy x true true (at w) t k r = Unconnected (record { 0 = w .place }) (refNumber (moveNo (x .places) w))
+judgementBy x true true nowhere (at t) k r = GuardFails (record { 0 = t .way .place }) (t .guard)
+judgementBy x true true nowhere nowhere (at k) r = WrongMark (record { 0 = k .place }) (k .sentence)
+judgementBy x true true nowhere nowhere nowhere false = RootUnmarked (root x)
+judgementBy x true true nowhere nowhere nowhere true = Accepted
 
 -- the answer
-unfoldable pub verdict : Items → Counters → Judgement
+unfoldable pub verdict : Items → Valuation → Judgement
 verdict x θ =
-    answerBy x (finished x) (eqb (stateOf x 0) 0) (firstNot (connects x) (waysOf x)) (firstNot (passes x θ) (testsOf x)) (firstNot (right x θ) (marksOf x)) (marked x (root x) 0)
+    judgementBy x (finished x) (eqb (stateAt x 0) 0) (firstNot (connects x) (waysOf x)) (firstNot (passes x θ) (testsOf x)) (firstNot (markRight x θ) (marksOf x)) (marked x (root x) 0)

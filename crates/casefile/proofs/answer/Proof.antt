@@ -1,29 +1,28 @@
 -- The records of the file are taken; where one is refused the run says it all, and else the case, which is sound, is judged. Assumes nothing.
 use mathlib.Core.Path.{_≡_, _∙_, sym, ap, ap₂}
 use lib.ListN.{take}
-use Rattle.line.specs.declared.Told.{Told}
-use Rattle.line.specs.Line.{toldOf}
-use Rattle.plan.specs.Cases.{emptyCase}
-use Rattle.plan.specs.Taking.{runOf}
-use Rattle.rules.specs.Theorems.{sound}
-use Rattle.meaning.specs.Judged.{numbersOf}
-use Rattle.casefile.specs.Answer.{answerBy, answerOf}
+use Rattle.answers.specs.declared.Told.{Told}
+use Rattle.collector.specs.Cases.{emptyCase}
+use Rattle.collector.specs.Taking.{collectedOf}
+use Rattle.rules_laws.specs.Theorems.{sound}
+use Rattle.answers.specs.Answers.{numbersOf}
+use Rattle.casefile.specs.Answer.{answerAfter, answerOf}
 use Rattle.casefile.specs.Bounded.{enough, bounded}
 use borrow.Author.Needs.{needs}
 use Rattle.casefile.proofs.answer.Statement.{statement}
 use Rattle.casefile.proofs.answer.Tie as tie
 
 -- the run is the file's
-run-of : (c : tie.After-take-all) → c .take-all .result ≡ runOf emptyCase (c .before .before .before .args .bytes .now)
-run-of c = c .take-all .ensures ∙ ap (λ e. runOf e (c .before .before .before .args .bytes .now)) (c .before .empty .ensures)
+run-of : (c : tie.After-take-all) → c .take-all .result ≡ collectedOf emptyCase (c .before .before .before .args .bytes .now)
+run-of c = c .take-all .ensures ∙ ap (λ e. collectedOf e (c .before .before .before .args .bytes .now)) (c .before .empty .ensures)
 
 -- so is the answer by it, and by the first bytes
 answer-by : (c : tie.After-take-all) {r : Told} → let bs = c .before .before .before .args .bytes .now in
-    r ≡ toldOf (answerBy (c .take-all .result)) → (r ≡ toldOf (answerOf bs)) × (r ≡ toldOf (answerOf (take enough bs)))
+    r ≡ answerAfter (c .take-all .result) → (r ≡ answerOf bs) × (r ≡ answerOf (take enough bs))
 unfolding answerOf
 answer-by c e =
-    let t = e ∙ ap (λ r. toldOf (answerBy r)) (run-of c) in
-    (t, t ∙ ap toldOf (sym (bounded _)))
+    let t = e ∙ ap answerAfter (run-of c) in
+    (t, t ∙ sym (bounded _))
 
 empty-requires : tie.Need-empty-requires
 empty-requires c κs = search needs
@@ -44,7 +43,7 @@ returns : tie.Need-returns
 returns c =
     let i = c .before .before in
     answer-by (i .before .before)
-    (simp (sym (i .before .is-taken .ensures), i .if1 .taken) (c .told .ensures ∙ ap (λ j. toldOf (numbersOf j)) (c .before .judge .ensures)))
+    (simp (sym (i .before .is-taken .ensures), i .if1 .taken) (c .told .ensures ∙ ap numbersOf (c .before .judge .ensures)))
 
 number-requires : tie.Need-number-requires
 number-requires c κs = search needs
@@ -64,7 +63,7 @@ returns-2 c =
     let r = e .before .before .take-all .result in
     answer-by (e .before .before)
     (simp (sym (e .before .is-taken .ensures), e .if1 .left)
-    (ap₂ (λ n f. toldOf (record { result = n; second = r .taken; third = f })) (c .before .number .ensures) (c .field .ensures)))
+    (ap₂ (λ n f. record { result = n; second = r .taken; third = f }) (c .before .number .ensures) (c .field .ensures)))
 
 pub answer-spec : {M : Type 1} → statement M
 answer-spec =

@@ -10,9 +10,9 @@ use lib.Seq.{take-all}
 use mir.Syntax.{w16, w64}
 use mir.Val.{SFits, toZ, ofZ}
 use mir.Facts.{toZ-ofZ, sfits-widen}
-use Rattle.integer.specs.Sizes.{size, times-fits, more-fits, more-read}
+use Rattle.laws.specs.Sizes.{size, times-fits, more-fits, more-read}
 use Rattle.kinds.specs.Table.{counters}
-use Rattle.counters.specs.Vectors.{at, sum-more}
+use Rattle.counters.specs.Vectors.{valueAt, sum-more}
 use Rattle.counters.specs.Bounds.{sum-within}
 use Rattle.counters.proofs.dot.Statement.{statement}
 use Rattle.counters.proofs.dot.Tie as tie
@@ -43,16 +43,16 @@ module _ (c : tie.After-total2 Inv-loop μ-loop) where
   x = getD (t .args .c .at) (l .loop .j) (pos 0)
 
   abbrev y : ℤ
-  y = at (t .args .v) (l .loop .j)
+  y = valueAt (t .args .v) (l .loop .j)
 
   abbrev s : ℤ
-  s = sum (take (l .loop .j) (t .args .c .at)) (at (t .args .v))
+  s = sum (take (l .loop .j) (t .args .c .at)) (valueAt (t .args .v))
 
   inside : l .loop .j < length (t .args .c .at)
   inside = search needs
 
   small : size s + size x * size y < 2 ^ 63
-  small = omega (arith, sum-within (t .args .c .at) (at (t .args .v)) (l .loop .j) inside, t .pre)
+  small = omega (arith, sum-within (t .args .c .at) (valueAt (t .args .v)) (l .loop .j) inside, t .pre)
 
   x-read : toZ w64 (ofZ w64 (toZ w16 (ofZ w16 x))) ≡ x
   x-read = toZ-ofZ (cast-total (c .before)) ∙ toZ-ofZ (fits (c .before))
@@ -93,7 +93,7 @@ loop-again c =
     let k = t c .args in (
       omega arith,
       more-read w64 (l c .loop .inv .1) (x-read c) (y-read c) (small c)
-          ∙ rw (add-one, sum-more (k .c .at) (at (k .v)) (l c .loop .j) (inside c)),
+          ∙ rw (add-one, sum-more (k .c .at) (valueAt (k .v)) (l c .loop .j) (inside c)),
     )
 
 returns : tie.Need-returns Inv-loop μ-loop

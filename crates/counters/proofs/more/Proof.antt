@@ -8,10 +8,10 @@ use lib.ListN.{getD}
 use mir.Syntax.{w64}
 use mir.Val.{toZ, ofZ}
 use mir.Facts.{toZ-ofZ}
-use Rattle.integer.specs.Sizes.{size, times-fits, more-fits, more-read}
-use Rattle.integer.specs.Tab.{Filled, fill-none, fill-more, fill-all}
+use Rattle.laws.specs.Sizes.{size, times-fits, more-fits, more-read}
+use Rattle.laws.specs.Tab.{Filled, fill-none, fill-more, fill-all}
 use Rattle.kinds.specs.Table.{counters}
-use Rattle.counters.specs.Vectors.{at, vec}
+use Rattle.counters.specs.Vectors.{valueAt, vec}
 use Rattle.counters.proofs.more.Statement.{statement}
 use Rattle.counters.proofs.more.Tie as tie
 
@@ -33,10 +33,10 @@ module _ (c : tie.After-each2 Inv-loop μ-loop) where
   n = toZ w64 (ofZ w64 (t .args .n))
 
   abbrev x : ℤ
-  x = at (t .args .a) (l .loop .j)
+  x = valueAt (t .args .a) (l .loop .j)
 
   abbrev y : ℤ
-  y = at (t .args .b) (l .loop .j)
+  y = valueAt (t .args .b) (l .loop .j)
 
   small : size x + size n * size y < 2 ^ 63
   small = rw (toZ-ofZ (t .fits .n)) (t .pre (l .loop .j) (omega arith))
@@ -90,7 +90,7 @@ returns c =
     let m = c .before .loop in
     let t = c .before .before .before .before in
     fill-all _ counters (m .each) (m .j) (omega arith) (m .inv)
-    ∙ ap (λ n. vec (λ j. at (t .args .a) j +ℤ n *ℤ at (t .args .b) j)) (toZ-ofZ (t .fits .n))
+    ∙ ap (λ n. vec (λ j. valueAt (t .args .a) j +ℤ n *ℤ valueAt (t .args .b) j)) (toZ-ofZ (t .fits .n))
 
 pub more-spec : {M : Type 1} → statement M
 more-spec =

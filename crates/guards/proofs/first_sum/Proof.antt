@@ -3,7 +3,7 @@ use mathlib.Core.Path.{_∙_, sym}
 use mir.Syntax.{w64}
 use mir.Facts.{toZ-ofZ}
 use lib.IntN.{+ℤ-idr}
-use Rattle.integer.specs.Sizes.{add-fits, add-read}
+use Rattle.laws.specs.Sizes.{add-fits, add-read}
 use Rattle.guards.proofs.first_sum.Statement.{statement}
 use Rattle.guards.proofs.first_sum.Tie as tie
 

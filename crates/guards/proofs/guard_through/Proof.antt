@@ -9,13 +9,13 @@ use lib.IntN.{ℤ, pos, _+ℤ_}
 use mir.Syntax.{w32, w64}
 use mir.Val.{SFits, toZ, ofZ}
 use mir.Facts.{toZ-ofZ, sfits-widen}
-use Rattle.integer.specs.Sizes.{size, add-size}
-use Rattle.integer.specs.Tests.{cond-by}
-use Rattle.lines.specs.Last.{lastOf}
-use Rattle.counters.specs.Vectors.{at}
+use Rattle.laws.specs.Sizes.{size, add-size}
+use Rattle.laws.specs.Tests.{cond-by}
+use Rattle.rounds.specs.Last.{lastOf}
+use Rattle.counters.specs.Vectors.{valueAt}
 use Rattle.counters.specs.Sum.{sum}
 use Rattle.counters.specs.Bounds.{sum-size}
-use Rattle.guards.specs.Sums.{throughBy}
+use Rattle.guards.specs.GuardSums.{throughBy}
 use Rattle.guards.proofs.guard_through.Statement.{statement}
 use Rattle.guards.proofs.guard_through.Tie as tie
 
@@ -25,10 +25,10 @@ module _ (c : tie.After-dot2) where
 
   -- the sum in the first round, and what a round adds
   abbrev a : ℤ
-  a = sum (t .args .g .coefficients .at) (at (t .args .base))
+  a = sum (t .args .g .coefficients .at) (valueAt (t .args .base))
 
   abbrev d : ℤ
-  d = sum (t .args .g .coefficients .at) (at (t .args .drift))
+  d = sum (t .args .g .coefficients .at) (valueAt (t .args .drift))
 
   a-read : toZ w64 (ofZ w64 (c .before .dot .result)) ≡ a
   a-read = toZ-ofZ (sfits-of (c .before .dot .ok)) ∙ c .before .dot .ensures
@@ -45,7 +45,7 @@ dot-requires-2 c κs = search needs
 first-sum-requires : tie.Need-first-sum-requires
 first-sum-requires c κs =
     let x = t c .args in
-    rw (a-read c, d-read c) (omega (arith, t c .pre, sum-size (x .g .coefficients .at) (at (x .base)), sum-size (x .g .coefficients .at) (at (x .drift))))
+    rw (a-read c, d-read c) (omega (arith, t c .pre, sum-size (x .g .coefficients .at) (valueAt (x .base)), sum-size (x .g .coefficients .at) (valueAt (x .drift))))
 
 fits : (c : tie.After-struct-told) → SFits w32 (c .before .before .before .before .before .args .g .bound)
 fits c = search needs
@@ -70,9 +70,9 @@ through-requires c κs =
       arith,
       t b .pre,
       add-size (a b) (cond (x .later) (d b) (pos 0)),
-      sum-size l (at (x .base)),
-      sum-size l (at (x .drift)),
-      mul-le-mul-left (lastOf (x .rounds)) (sum-size l (at (x .drift))),
+      sum-size l (valueAt (x .base)),
+      sum-size l (valueAt (x .drift)),
+      mul-le-mul-left (lastOf (x .rounds)) (sum-size l (valueAt (x .drift))),
     ))
 
 returns : tie.Need-returns

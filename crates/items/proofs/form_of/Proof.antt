@@ -1,7 +1,7 @@
 -- The sentence of each form, and of a number that is no form. Assumes nothing.
 use mathlib.Core.Path.{_≡_, refl, _∙_, ap}
 use native.Mathlib.Omega.{arith}
-use Rattle.integer.specs.Cases.{no-case}
+use Rattle.laws.specs.Cases.{no-case}
 use Rattle.record.specs.Layout.{at}
 use Rattle.items.specs.Items.{byteOf, formOf}
 use borrow.Author.Needs.{needs}

@@ -8,7 +8,7 @@ use lib.IntN.{ℤ}
 use mir.Syntax.{w16}
 use mir.Val.{SFits, toZ, ofZ}
 use mir.Facts.{toZ-ofZ}
-use Rattle.integer.specs.Tab.{Filled, fill-none, fill-more, fill-all}
+use Rattle.laws.specs.Tab.{Filled, fill-none, fill-more, fill-all}
 use Rattle.record.specs.declared.Field.{Field}
 use Rattle.record.specs.Layout.{at}
 use Rattle.record.proofs.At.{at-is}

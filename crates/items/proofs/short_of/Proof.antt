@@ -7,7 +7,7 @@ use lib.Signed.{ltZ}
 use mir.Syntax.{w16, w32}
 use mir.Val.{SFits, toZ, ofZ}
 use mir.Facts.{toZ-ofZ}
-use Rattle.integer.specs.Signed.{within-fits}
+use Rattle.laws.specs.Signed.{within-fits}
 use Rattle.items.specs.Items.{integerOf}
 use borrow.Author.Needs.{needs}
 use Rattle.items.proofs.short_of.Statement.{statement}

@@ -6,15 +6,16 @@ use Prim.Native.Nat.{_-_, _*_, _/_, _<_}
 use native.Mathlib.Omega.{arith}
 use lib.ListN.{length, getD}
 use Rattle.kinds.specs.declared.Kind.the-variants as kind
-use Rattle.plan.specs.Cases.{itemsOf, roomOf}
-use Rattle.rules.specs.Held.{counted}
+use Rattle.collector.specs.Cases.{itemsOf}
+use Rattle.items.specs.Lists.{roomOf}
+use Rattle.rules_laws.specs.Held.{counted}
 use Rattle.meaning.specs.Run.{moveNo}
 use Rattle.meaning.specs.Judged.{startOf, testsOf}
-use Rattle.meaning.specs.Given.{facts}
+use Rattle.meaning_laws.specs.Given.{facts}
 use Rattle.verdict.specs.Rounds.{roundsBy}
-use Rattle.verdict.specs.Verdict.{firstNot, passes, numberOf}
-use Rattle.forward.specs.declared.Tables.{Tables}
-use Rattle.forward.specs.Tables.{firstsOf}
+use Rattle.verdict.specs.Verdict.{firstNot, passes, refNumber}
+use Rattle.tables.specs.declared.Tables.{Tables}
+use Rattle.tables.specs.Tables.{firstsOf}
 use Rattle.guards.specs.declared.Search.the-variants.{At}
 use Rattle.marks.specs.Known.{first-within, base-is, drift-is}
 use Rattle.guards.specs.Found.{found-end}
@@ -22,7 +23,7 @@ use Rattle.judge.specs.Told.{toldTest, isNamed}
 use Rattle.judge.specs.Laws.{fails, found-here, found-later, each}
 use Rattle.judge.specs.Ways.{wayNo, way-move, move-below}
 use Rattle.judge.specs.Tests.{guardNo, isTest, testNo, testsFrom, tests-start, guard-read, guard-below, guard-at, rounds-at}
-use Rattle.judge.specs.Sums.{test-fits, test-is}
+use Rattle.judge.specs.TestSums.{test-fits, test-is}
 use Rattle.judge.proofs.guard_fails.Statement.{statement}
 use Rattle.judge.proofs.guard_fails.Tie as tie
 
@@ -51,10 +52,10 @@ inside c = omega (arith, start (c .before) .pre .0 .room kind.Place)
 
 number-is : (c : tie.After-number Inv-loop μ-loop) →
     let l = c .before .before .before .before in
-    c .number .result ≡ numberOf (moveNo (itemsOf (start l .args .t1) .places) (wayNo (l .loop .k / 2)))
+    c .number .result ≡ refNumber (moveNo (itemsOf (start l .args .t1) .places) (wayNo (l .loop .k / 2)))
 number-is c =
     let l = c .before .before .before .before in
-    c .number .ensures ∙ ap numberOf (c .before .move-into .ensures ∙ way-move (start l .pre .0) (l .loop .k / 2))
+    c .number .ensures ∙ ap refNumber (c .before .move-into .ensures ∙ way-move (start l .pre .0) (l .loop .k / 2))
 
 move-room : (c : tie.After-number Inv-loop μ-loop) → c .number .result < roomOf kind.Move
 move-room c =
@@ -72,8 +73,8 @@ guard-is c =
 
 guard-no : (c : tie.After-number2 Inv-loop μ-loop) →
     let l = c .before .before .before .before .before .before .before .before in
-    c .number2 .result ≡ numberOf (guardNo (itemsOf (start l .args .t1)) (l .loop .k))
-guard-no c = c .number2 .ensures ∙ ap numberOf (guard-is (c .before))
+    c .number2 .result ≡ refNumber (guardNo (itemsOf (start l .args .t1)) (l .loop .k))
+guard-no c = c .number2 .ensures ∙ ap refNumber (guard-is (c .before))
 
 guard-room : (c : tie.After-number2 Inv-loop μ-loop) → c .number2 .result < roomOf kind.Guard
 guard-room c =

@@ -4,8 +4,9 @@ use native.Mathlib.Omega.{arith}
 use borrow.Author.Needs.{needs}
 use borrow.Author.Tests.{not-true, not-false}
 use Rattle.kinds.specs.declared.Kind.the-variants as kind
-use Rattle.plan.specs.Cases.{Items, itemsOf}
-use Rattle.meaning.specs.declared.Judgement.the-variants.{Unfinished}
+use Rattle.items.specs.Lists.{Items}
+use Rattle.collector.specs.Cases.{itemsOf}
+use Rattle.answers.specs.declared.Judgement.the-variants.{Unfinished}
 use Rattle.meaning.specs.Judged.{startOf}
 use Rattle.verdict.specs.Verdict.{verdict}
 use Rattle.judge.specs.Stages.{

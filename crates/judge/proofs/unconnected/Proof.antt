@@ -5,11 +5,12 @@ use Prim.Native.Nat.{_-_, _*_, _/_, _<_}
 use native.Mathlib.Omega.{arith}
 use lib.ListN.{length}
 use Rattle.kinds.specs.declared.Kind.the-variants as kind
-use Rattle.plan.specs.Cases.{itemsOf, roomOf}
-use Rattle.rules.specs.Held.{counted}
+use Rattle.collector.specs.Cases.{itemsOf}
+use Rattle.items.specs.Lists.{roomOf}
+use Rattle.rules_laws.specs.Held.{counted}
 use Rattle.meaning.specs.Run.{moveNo}
-use Rattle.meaning.specs.Judged.{waysOf, before}
-use Rattle.verdict.specs.Verdict.{firstNot, connects, numberOf}
+use Rattle.meaning.specs.Judged.{waysOf, placeBefore}
+use Rattle.verdict.specs.Verdict.{firstNot, connects, refNumber}
 use Rattle.guards.specs.declared.Search.the-variants.{At}
 use Rattle.guards.specs.Found.{found-end}
 use Rattle.judge.specs.Told.{toldWay}
@@ -26,10 +27,10 @@ abbrev μ-loop : tie.MeasureT-loop
 
 number-is : (c : tie.After-number Inv-loop μ-loop) →
     let l = c .before .before .before .before in
-    c .number .result ≡ numberOf (moveNo (itemsOf (l .before .args .t1) .places) (wayNo (l .loop .k)))
+    c .number .result ≡ refNumber (moveNo (itemsOf (l .before .args .t1) .places) (wayNo (l .loop .k)))
 number-is c =
     let l = c .before .before .before .before in
-    c .number .ensures ∙ ap numberOf (c .before .move-into .ensures ∙ way-move (l .before .pre) (l .loop .k))
+    c .number .ensures ∙ ap refNumber (c .before .move-into .ensures ∙ way-move (l .before .pre) (l .loop .k))
 
 move-room : (c : tie.After-number Inv-loop μ-loop) → c .number .result < roomOf kind.Move
 move-room c =
@@ -38,7 +39,7 @@ move-room c =
 
 before-is : (c : tie.After-place-before Inv-loop μ-loop) →
     let l = c .before .before .before .before .before .before in
-    c .place-before .result ≡ before (itemsOf (l .before .args .t1) .places) (wayNo (l .loop .k))
+    c .place-before .result ≡ placeBefore (itemsOf (l .before .args .t1) .places) (wayNo (l .loop .k))
 before-is c =
     let l = c .before .before .before .before .before .before in
     c .place-before .ensures ∙ way-before (l .before .pre) (l .loop .k)

@@ -2,7 +2,7 @@
 use mathlib.Core.Path.{refl}
 use borrow.Author.Needs.{needs}
 use native.Mathlib.Omega.{arith}
-use Rattle.integer.specs.Lists.{past-end, in-run}
+use Rattle.laws.specs.Lists.{past-end, in-run}
 use Rattle.kinds.specs.declared.Rule.the-variants.{Blank}
 use Rattle.kinds.specs.Table.{guardRow, counters}
 use Rattle.kinds.proofs.guard_rule.Statement.{statement}

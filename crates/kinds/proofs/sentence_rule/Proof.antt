@@ -2,8 +2,8 @@
 use mathlib.Core.Path.{_≡_, refl, _∙_, sym, ap}
 use Prim.Native.Nat.{ℕ}
 use native.Mathlib.Omega.{arith}
-use Rattle.integer.specs.Lists.{nth}
-use Rattle.integer.specs.Cases.{no-case}
+use Rattle.laws.specs.Lists.{nth}
+use Rattle.laws.specs.Cases.{no-case}
 use Rattle.kinds.specs.declared.Rule.{Rule}
 use Rattle.kinds.specs.declared.Rule.the-variants.{Blank}
 use Rattle.kinds.specs.Table.{sentenceRow, inFilled}

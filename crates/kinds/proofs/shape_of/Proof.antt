@@ -3,7 +3,7 @@ use borrow.Author.Needs.{needs}
 use mathlib.Core.Path.{refl}
 use Prim.Native.Nat.{ℕ, suc, _-_}
 use native.Mathlib.Omega.{arith}
-use Rattle.integer.specs.Tab.{Filled, fill-none, fill-more, fill-all}
+use Rattle.laws.specs.Tab.{Filled, fill-none, fill-more, fill-all}
 use Rattle.record.specs.Layout.{fields, at}
 use Rattle.kinds.specs.Table.{flagOf, shapeOf}
 use Rattle.kinds.proofs.shape_of.Statement.{statement}

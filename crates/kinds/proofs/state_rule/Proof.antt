@@ -1,6 +1,6 @@
 -- The row of a state has one field. Assumes nothing.
 use native.Mathlib.Omega.{arith}
-use Rattle.integer.specs.Lists.{past-end}
+use Rattle.laws.specs.Lists.{past-end}
 use Rattle.kinds.specs.declared.Rule.the-variants.{Blank}
 use Rattle.kinds.specs.Table.{stateRow}
 use Rattle.kinds.proofs.state_rule.Statement.{statement}

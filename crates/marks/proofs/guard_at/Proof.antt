@@ -3,9 +3,10 @@ use mathlib.Core.Path.{sym}
 use native.Mathlib.Omega.{arith}
 use lib.ListN.{List·getD-eq-default}
 use Rattle.kinds.specs.declared.Kind.the-variants as kind
-use Rattle.plan.specs.Cases.{itemsOf, noItem}
-use Rattle.rules.specs.Held.{counted}
-use Rattle.forward.specs.Reads.{at-guards}
+use Rattle.collector.specs.Cases.{itemsOf}
+use Rattle.items.specs.Lists.{noItem}
+use Rattle.rules_laws.specs.Held.{counted}
+use Rattle.tables.specs.Reads.{at-guards}
 use borrow.Author.Needs.{needs}
 use Rattle.marks.proofs.guard_at.Statement.{statement}
 use Rattle.marks.proofs.guard_at.Tie as tie

@@ -7,20 +7,21 @@ use native.Mathlib.Omega.{arith}
 use lib.ListN.{length, getD}
 use borrow.Author.Needs.{needs}
 use Rattle.kinds.specs.declared.Kind.the-variants as kind
-use Rattle.plan.specs.Cases.{Items, itemsOf, roomOf}
-use Rattle.rules.specs.Held.{counted}
+use Rattle.items.specs.Lists.{Items, roomOf}
+use Rattle.collector.specs.Cases.{itemsOf}
+use Rattle.rules_laws.specs.Held.{counted}
 use Rattle.meaning.specs.Run.{guardAt}
 use Rattle.meaning.specs.Judged.{startOf}
-use Rattle.meaning.specs.Given.{facts}
+use Rattle.meaning_laws.specs.Given.{facts}
 use Rattle.verdict.specs.declared.Throughout.{Throughout}
 use Rattle.verdict.specs.Rounds.{loopOf, roundsOf}
 use Rattle.verdict.specs.Verdict.{guardThrough}
-use Rattle.forward.specs.declared.Tables.{Tables}
-use Rattle.guards.specs.Sums.{Known}
+use Rattle.tables.specs.declared.Tables.{Tables}
+use Rattle.guards.specs.GuardSums.{Known}
 use Rattle.marks.specs.Wrong.{isRight, wrongIn}
 use Rattle.marks.specs.Search.{offFrom, off-start, off-here, off-later, off-end}
 use Rattle.marks.specs.Known.{first-within, rounds-are, base-is, drift-is, right-is}
-use Rattle.marks.specs.Sums.{guard-fits, guard-is}
+use Rattle.marks.specs.SentenceSums.{guard-fits, guard-is}
 use Rattle.marks.proofs.guard_wrong.Statement.{statement}
 use Rattle.marks.proofs.guard_wrong.Tie as tie
 

@@ -9,12 +9,13 @@ use native.Mathlib.Omega.{arith}
 use lib.ListN.{getD}
 use Rattle.kinds.specs.declared.Kind.the-variants as kind
 use Rattle.items.specs.declared.Place.{Place}
-use Rattle.plan.specs.Cases.{itemsOf, roomOf}
-use Rattle.rules.specs.Held.{counted}
+use Rattle.collector.specs.Cases.{itemsOf}
+use Rattle.items.specs.Lists.{roomOf}
+use Rattle.rules_laws.specs.Held.{counted}
 use Rattle.meaning.specs.Truth.{bit}
 use Rattle.meaning.specs.Judged.{marked}
 use Rattle.verdict.specs.Verdict.{nextThrough}
-use Rattle.forward.specs.Reads.{at-places}
+use Rattle.tables.specs.Reads.{at-places}
 use Rattle.marks.specs.Wrong.{isRight}
 use Rattle.marks.specs.Search.{offFrom, off-start, down-start, down-off, down-on}
 use Rattle.marks.specs.Bits.{unmarked}

@@ -6,8 +6,9 @@ use native.Mathlib.Omega.{arith}
 use lib.ListN.{length}
 use borrow.Author.Needs.{needs}
 use Rattle.kinds.specs.declared.Kind.the-variants as kind
-use Rattle.plan.specs.Cases.{Items, itemsOf}
-use Rattle.rules.specs.Held.{counted}
+use Rattle.items.specs.Lists.{Items}
+use Rattle.collector.specs.Cases.{itemsOf}
+use Rattle.rules_laws.specs.Held.{counted}
 use Rattle.verdict.specs.Rounds.{flag}
 use Rattle.marks.specs.Wrong.{isRight, wrongIn, simpleThrough}
 use Rattle.marks.specs.Search.{offFrom, off-start, off-here, off-later, off-end}

@@ -8,18 +8,19 @@ use lib.IntN.{ℤ, pos, _+ℤ_}
 use mir.Syntax.{w16, w64}
 use mir.Val.{SFits, toZ, ofZ}
 use mir.Facts.{toZ-ofZ, sfits-widen}
-use Rattle.integer.specs.Sizes.{size, add-fits, add-read}
+use Rattle.laws.specs.Sizes.{size, add-fits, add-read}
 use Rattle.kinds.specs.declared.Kind.the-variants as kind
 use Rattle.items.specs.declared.Place.{Place}
 use Rattle.items.specs.declared.Term.{Term}
-use Rattle.plan.specs.Cases.{itemsOf, roomOf, noItem}
-use Rattle.rules.specs.Held.{counted}
+use Rattle.collector.specs.Cases.{itemsOf}
+use Rattle.items.specs.Lists.{roomOf, noItem}
+use Rattle.rules_laws.specs.Held.{counted}
 use Rattle.meaning.specs.Truth.{bit}
 use Rattle.meaning.specs.Judged.{marked}
-use Rattle.meaning.specs.Labels.{worth, weightOf}
-use Rattle.best.specs.declared.Steps.{Steps}
-use Rattle.best.specs.Numbers.{none, choiceBy}
-use Rattle.forward.specs.Reads.{at-places}
+use Rattle.verdict.specs.Labels.{worth, weightOf}
+use Rattle.maxplus.specs.declared.Steps.{Steps}
+use Rattle.maxplus.specs.Numbers.{none, choiceBy}
+use Rattle.tables.specs.Reads.{at-places}
 use borrow.Author.Needs.{needs, sfits-of}
 use Rattle.marks.specs.Bits.{fits-size}
 use Rattle.marks.specs.Steps.{Ready, ready-none, ready-more, ready-all, stopAt, goAt, stop-past, go-past}

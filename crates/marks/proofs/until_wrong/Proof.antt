@@ -14,22 +14,23 @@ use mir.Facts.{toZ-ofZ, sfits-widen}
 use Rattle.kinds.specs.declared.Kind.the-variants as kind
 use Rattle.items.specs.declared.LoopMark.{LoopMark}
 use Rattle.items.specs.declared.Place.{Place}
-use Rattle.plan.specs.Cases.{Items, itemsOf, roomOf, noItem}
-use Rattle.rules.specs.Held.{counted}
-use Rattle.meaning.specs.Labels.{Label, labelOf}
+use Rattle.items.specs.Lists.{Items, roomOf, noItem}
+use Rattle.collector.specs.Cases.{itemsOf}
+use Rattle.rules_laws.specs.Held.{counted}
+use Rattle.verdict.specs.Labels.{Label, labelOf}
 use Rattle.meaning.specs.Truth.{bit}
-use Rattle.meaning.specs.Given.{facts}
+use Rattle.meaning_laws.specs.Given.{facts}
 use Rattle.meaning.specs.Judged.{marked}
 use Rattle.verdict.specs.declared.Throughout.{Throughout}
 use Rattle.verdict.specs.Rounds.{firstOf, loopOf, agree}
 use Rattle.verdict.specs.Verdict.{isAlways, isNever}
-use Rattle.best.specs.declared.Ends.{Ends}
-use Rattle.best.specs.Numbers.{nth, stepBy, aroundBy}
-use Rattle.best.specs.Bounds.{Light}
-use Rattle.best.specs.Shows.{StepsAre}
-use Rattle.forward.specs.Entries.{first-at}
-use Rattle.forward.specs.Reads.{at-places}
-use Rattle.forward.specs.Stretches.{first-below, mark-is, end-in}
+use Rattle.maxplus.specs.declared.Ends.{Ends}
+use Rattle.maxplus.specs.Numbers.{nth, stepBy, aroundBy}
+use Rattle.maxplus.specs.Bounds.{Light}
+use Rattle.maxplus.specs.Shows.{StepsAre}
+use Rattle.tables.specs.Entries.{first-at}
+use Rattle.tables.specs.Reads.{at-places}
+use Rattle.tables.specs.Stretches.{first-below, mark-is, end-in}
 use borrow.Author.Needs.{needs, sfits-of}
 use borrow.Author.Tests.{not-true, not-false}
 use Rattle.marks.specs.Wrong.{isRight, untilsOf}

@@ -9,14 +9,15 @@ use Prim.Native.Nat.{ℕ, _-_, _<_}
 use native.Mathlib.Omega.{arith}
 use lib.ListN.{length}
 use Rattle.kinds.specs.declared.Kind.the-variants as kind
-use Rattle.plan.specs.declared.Case.{Case}
-use Rattle.plan.specs.Cases.{Items, itemsOf, roomOf}
-use Rattle.rules.specs.Sound.{Sound}
-use Rattle.rules.specs.Held.{counted}
+use Rattle.collector.specs.declared.Case.{Case}
+use Rattle.items.specs.Lists.{Items, roomOf}
+use Rattle.collector.specs.Cases.{itemsOf}
+use Rattle.collector.specs.Sound.{Sound}
+use Rattle.rules_laws.specs.Held.{counted}
 use Rattle.meaning.specs.Judged.{startOf, marksOf}
-use Rattle.verdict.specs.Verdict.{firstNot, right, formThrough}
-use Rattle.forward.specs.declared.Tables.{Tables}
-use Rattle.forward.specs.Tables.{firstsOf}
+use Rattle.verdict.specs.Verdict.{firstNot, markRight, formThrough}
+use Rattle.tables.specs.declared.Tables.{Tables}
+use Rattle.tables.specs.Tables.{firstsOf}
 use Rattle.marks.specs.Wrong.{wrongOf, toldMark}
 use Rattle.marks.specs.Known.{form-ranged, wrong-by, simple-by}
 use Rattle.marks.specs.Marks.{rowsFrom, rows-start, rows-here, rows-later, rows-end}
@@ -24,7 +25,7 @@ use Rattle.marks.proofs.wrong_mark.Statement.{statement}
 use Rattle.marks.proofs.wrong_mark.Tie as tie
 
 abbrev Inv-loop : tie.InvT-loop
-Inv-loop t c firsts n places i₀ i = toldMark (firstNot (right (itemsOf c) (startOf (itemsOf c))) (marksOf (itemsOf c))) ≡ rowsFrom (itemsOf c) i
+Inv-loop t c firsts n places i₀ i = toldMark (firstNot (markRight (itemsOf c) (startOf (itemsOf c))) (marksOf (itemsOf c))) ≡ rowsFrom (itemsOf c) i
 
 abbrev μ-loop : tie.MeasureT-loop
 μ-loop t c firsts n places i₀ i = n - i

@@ -1,7 +1,7 @@
 -- `plancheck::print` is safe: the bytes that a line counts are there. Assumes nothing.
 use borrow.Author.Needs.{needs}
 use Rattle.io.proofs.Counting.{counts}
-use Rattle.line.proofs.Laws.{within}
+use Rattle.output.proofs.Laws.{within}
 use Rattle.plancheck.proofs.print.Statement.{statement}
 use Rattle.plancheck.proofs.print.Tie as tie
 

@@ -9,7 +9,7 @@ use lib.ListN.{length, getD, drop, drop-of-length-le}
 use mir.Syntax.{w32}
 use mir.Val.{hbits}
 use mir.ValLaws.{toZ-pos}
-use Rattle.integer.specs.Signed.{pos-fits, minus-fits, minus-read}
+use Rattle.laws.specs.Signed.{pos-fits, minus-fits, minus-read}
 use Rattle.record.specs.declared.Content.the-variants.{Number}
 use Rattle.record.specs.Spelling.{digitFrom, signed, digits}
 use Rattle.record.specs.Layout.{width}

@@ -1,6 +1,6 @@
 -- Of what all records of the file are answered. Assumes nothing.
 use mathlib.Core.Path.{_∙_, ap}
-use Rattle.faults.specs.Answers.{fieldOf}
+use Rattle.answers.specs.Answers.{fieldOf}
 use borrow.Author.Needs.{needs}
 use Rattle.testing.proofs.result_field.Statement.{statement}
 use Rattle.testing.proofs.result_field.Tie as tie

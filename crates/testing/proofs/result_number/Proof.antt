@@ -1,6 +1,6 @@
 -- Of what all records of the file are answered. Assumes nothing.
 use mathlib.Core.Path.{_∙_, ap}
-use Rattle.faults.specs.Answers.{numberOf}
+use Rattle.answers.specs.Answers.{numberOf}
 use borrow.Author.Needs.{needs}
 use Rattle.testing.proofs.result_number.Statement.{statement}
 use Rattle.testing.proofs.result_number.Tie as tie

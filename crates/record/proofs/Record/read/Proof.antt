@@ -5,7 +5,7 @@ use Prim.Native.Nat.{ℕ, suc, _+_, _-_, _*_}
 use native.Mathlib.Nat.{add-sub-cancel-left}
 use native.Mathlib.Omega.{arith}
 use lib.ListN.{take, drop}
-use Rattle.integer.specs.Tab.{Filled, fill-none, fill-more, fill-all}
+use Rattle.laws.specs.Tab.{Filled, fill-none, fill-more, fill-all}
 use Rattle.record.specs.declared.Field.{Field}
 use Rattle.record.specs.Spelling.{contentOf}
 use Rattle.record.specs.Layout.{width, fields as count, fieldAt, recordOf}

@@ -1,0 +1,70 @@
+-- What a record is answered, document 01's number and field for each answer, and the order in which refusals are tested.
+use mathlib.Core.List.{List, [], _∷_}
+use mathlib.Core.Bool.{Bool}
+use Prim.Native.Nat.{ℕ, _<_}
+use lib.Dec.{eqb}
+use lib.ListN.{length, getD}
+use Rattle.laws.specs.Lowest.{lowest}
+use Rattle.answers.specs.declared.Answer.{Answer}
+use Rattle.answers.specs.declared.Answer.the-variants.{Taken, NotARecord, NoLineFeed, NoSuchKind, Misspelled, Misfilled, OutOfRange, OutOfOrder, NoRoom, NotThere, Misplaced, WrongWayIn}
+use Rattle.answers.specs.declared.Judgement.the-variants.{Accepted, GuardFails, RootUnmarked, Unconnected, Unfinished, WrongMark, WrongStart}
+use Rattle.answers.specs.declared.Judgement.{Judgement}
+use Rattle.answers.specs.declared.Told.{Told}
+
+-- each answer's numbers
+abbrev pub told : Answer → ℕ × ℕ
+told Taken = (0, 0)
+told NotARecord = (11, 0)
+told NoLineFeed = (12, 0)
+told NoSuchKind = (13, 0)
+told (Misspelled f) = (14, f)
+told (Misfilled f) = (15, f)
+told (OutOfRange f) = (16, f)
+told OutOfOrder = (21, 0)
+told NoRoom = (22, 0)
+told (NotThere f) = (23, f)
+told (Misplaced f) = (25, f)
+told WrongWayIn = (26, 2)
+
+-- the result of an answer
+abbrev pub numberOf : Answer → ℕ
+numberOf a = told a .0
+
+-- the field of an answer
+abbrev pub fieldOf : Answer → ℕ
+fieldOf a = told a .1
+
+-- the refusals in the order in which they are tested; f is the field of those that name one
+abbrev pub testOrder : ℕ → List Answer
+testOrder f =
+    NotARecord ∷ NoLineFeed ∷ NoSuchKind ∷ Misspelled f ∷ Misfilled f ∷ OutOfRange f ∷ OutOfOrder ∷ NoRoom ∷ NotThere f ∷ Misplaced f ∷ WrongWayIn ∷ []
+
+-- the place of result n in that order; all are tested before 0 is answered
+abbrev pub turnOf : ℕ → ℕ
+turnOf n = lowest (length (testOrder 0)) 0 (λ i. eqb (numberOf (getD (testOrder 0) i Taken)) n)
+
+-- a is tested before b
+abbrev pub Before : Answer → Answer → Type 0
+Before a b = turnOf (numberOf a) < turnOf (numberOf b)
+
+-- whether an answer says that the record is taken
+abbrev pub isTaken : Answer → Bool
+isTaken a = eqb (numberOf a) 0
+
+-- the numbers of a refusal: its result, the record and the field
+abbrev pub refusal : ℕ → Answer → Told
+refusal k a = record { result = numberOf a; second = k; third = fieldOf a }
+
+-- three numbers
+abbrev pub numbers : ℕ → ℕ → ℕ → Told
+numbers r s t = record { result = r; second = s; third = t }
+
+-- the numbers of each answer of a judgement
+abbrev pub numbersOf : Judgement → Told
+numbersOf Accepted = numbers 0 0 0
+numbersOf (Unfinished n) = numbers 24 n 0
+numbersOf WrongStart = numbers 31 0 0
+numbersOf (Unconnected p t) = numbers 32 (p .0) t
+numbersOf (GuardFails p g) = numbers 33 (p .0) g
+numbersOf (WrongMark p i) = numbers 34 (p .0) i
+numbersOf (RootUnmarked r) = numbers 35 0 r

@@ -1,0 +1,139 @@
+// Every answer of the checker: to a record, and of a judgement; with the three numbers that document 01 has for it.
+ghost use mathlib.Core.Path.{_≡_};
+ghost use Rattle.answers.specs.Answers.{isTaken, numberOf, fieldOf, numbersOf};
+use items::PlaceNo;
+
+// What a record is answered; with a field, counted from 1, where one is named.
+pub enum Answer {
+    Taken,
+    NotARecord,
+    NoLineFeed,
+    NoSuchKind,
+    Misspelled(u8),
+    Misfilled(u8),
+    OutOfRange(u8),
+    OutOfOrder,
+    NoRoom,
+    NotThere(u8),
+    Misplaced(u8),
+    WrongWayIn,
+}
+
+// The answer of a judgement, one for each result of document 01.
+pub enum Judgement {
+    // 0
+    Accepted,
+    // 24: no sentence, or the endless loop hasn't closed; the number of records held
+    Unfinished(usize),
+    // 31
+    WrongStart,
+    // 32: the place, and the move into it that doesn't connect
+    Unconnected(PlaceNo, u8),
+    // 33: the place, and the guard that fails
+    GuardFails(PlaceNo, u8),
+    // 34: the place, and the sentence with a wrong mark
+    WrongMark(PlaceNo, u8),
+    // 35: the root, which isn't marked at place 0
+    RootUnmarked(u8),
+}
+
+// The three numbers of an answer: the result, then where, then what.
+pub struct Told {
+    pub result: usize,
+    pub second: usize,
+    pub third: usize,
+}
+
+impl Answer {
+    // Document 01's number of an answer.
+    pub fn number(self) -> u8
+        ensures { λ r. ⌜ r ≡ numberOf self ⌝ }
+    {
+        match self {
+            Answer::Taken => 0,
+            Answer::NotARecord => 11,
+            Answer::NoLineFeed => 12,
+            Answer::NoSuchKind => 13,
+            Answer::Misspelled(_) => 14,
+            Answer::Misfilled(_) => 15,
+            Answer::OutOfRange(_) => 16,
+            Answer::OutOfOrder => 21,
+            Answer::NoRoom => 22,
+            Answer::NotThere(_) => 23,
+            Answer::Misplaced(_) => 25,
+            Answer::WrongWayIn => 26,
+        }
+    }
+
+    // The field that an answer names, counted from 1; 0 where it names none.
+    pub fn field(self) -> u8
+        ensures { λ r. ⌜ r ≡ fieldOf self ⌝ }
+    {
+        match self {
+            Answer::Taken => 0,
+            Answer::NotARecord => 0,
+            Answer::NoLineFeed => 0,
+            Answer::NoSuchKind => 0,
+            Answer::Misspelled(field) => field,
+            Answer::Misfilled(field) => field,
+            Answer::OutOfRange(field) => field,
+            Answer::OutOfOrder => 0,
+            Answer::NoRoom => 0,
+            Answer::NotThere(field) => field,
+            Answer::Misplaced(field) => field,
+            Answer::WrongWayIn => 2,
+        }
+    }
+}
+
+// Whether an answer says that the record is taken.
+pub fn is_taken(answer: Answer) -> bool
+    ensures { λ r. ⌜ r ≡ isTaken answer ⌝ }
+{
+    answer.number() == 0
+}
+
+impl Judgement {
+    // The three numbers of a judgement.
+    pub fn told(self) -> Told
+        ensures { λ r. ⌜ r ≡ numbersOf self ⌝ }
+    {
+        match self {
+            Judgement::Accepted => Told {
+                result: 0,
+                second: 0,
+                third: 0,
+            },
+            Judgement::Unfinished(n) => Told {
+                result: 24,
+                second: n,
+                third: 0,
+            },
+            Judgement::WrongStart => Told {
+                result: 31,
+                second: 0,
+                third: 0,
+            },
+            Judgement::Unconnected(p, t) => Told {
+                result: 32,
+                second: p.0,
+                third: t as usize,
+            },
+            Judgement::GuardFails(p, g) => Told {
+                result: 33,
+                second: p.0,
+                third: g as usize,
+            },
+            Judgement::WrongMark(p, i) => Told {
+                result: 34,
+                second: p.0,
+                third: i as usize,
+            },
+            Judgement::RootUnmarked(r) => Told {
+                result: 35,
+                second: 0,
+                third: r as usize,
+            },
+        }
+    }
+}

@@ -1,0 +1,68 @@
+-- The results that come from the input (11 to 16), each stage named: 11 to 13 by the head of a record, 14 to 16 by its fields.
+use mathlib.Core.List.{List}
+use mathlib.Core.Bool.{Bool, false, cond}
+use Prim.Native.Nat.{ℕ, _-_}
+use lib.Dec.{eqb, leb}
+use lib.ListN.{length, getD}
+use Rattle.record.specs.declared.Record.{Record}
+use Rattle.record.specs.Layout.{fields, at, recordLength, lineFeed}
+use Rattle.kinds.specs.declared.Kind.the-variants.{State, Guard, Move, Sentence, Place}
+use Rattle.kinds.specs.declared.Letter.{Letter}
+use Rattle.kinds.specs.declared.Letter.the-variants.{Names, Unknown}
+use Rattle.kinds.specs.declared.Rule.the-variants as rule
+use Rattle.kinds.specs.declared.Sort.the-variants as sort
+use Rattle.checks.specs.declared.Fault.the-variants as fault
+use Rattle.kinds.specs.declared.Shape.{Shape}
+use Rattle.checks.specs.declared.Head.{Head}
+use Rattle.checks.specs.declared.Head.the-variants.{Of, Refused}
+use Rattle.answers.specs.declared.Answer.{Answer}
+use Rattle.answers.specs.declared.Answer.the-variants as answer
+use Rattle.kinds.specs.Kinds.{kindOf}
+use Rattle.checks.specs.Faults.{outside, lowestFault}
+
+-- the answer where the lowest field with a fault is f, and the answer where there is none
+abbrev pub orElse : ℕ → (ℕ → Answer) → Answer → Answer
+orElse f refused other = cond (leb f fields) (refused f) other
+
+-- a sentence whose form is filled, but is none
+abbrev pub wrongForm : Shape → Record → Bool
+wrongForm s r = elim (s .kind) [
+  | State ↦ false
+  | Guard ↦ false
+  | Move ↦ false
+  | Sentence ↦ outside (rule.Needed sort.Form) (at (r .fields) 1)
+  | Place ↦ false
+]
+
+-- 16
+unfoldable pub rangeAnswer : Shape → Record → Answer
+rangeAnswer s r = orElse (lowestFault fault.OutOfRange s r) answer.OutOfRange answer.Taken
+
+-- 15, or else: a field that must be blank is filled
+unfoldable pub extraAnswer : Shape → Record → Answer
+extraAnswer s r = orElse (lowestFault fault.Extra s r) answer.Misfilled (rangeAnswer s r)
+
+-- 15: a needed field is blank
+unfoldable pub missingAnswer : Shape → Record → Answer
+missingAnswer s r = orElse (lowestFault fault.Missing s r) answer.Misfilled (extraAnswer s r)
+
+-- 16, field 1, before 15
+unfoldable pub formAnswer : Shape → Record → Answer
+formAnswer s r = cond (wrongForm s r) (answer.OutOfRange 1) (missingAnswer s r)
+
+-- 14
+unfoldable pub fieldsAnswer : Shape → Record → Answer
+fieldsAnswer s r = orElse (lowestFault fault.Misspelled s r) answer.Misspelled (formAnswer s r)
+
+-- 13
+abbrev pub namedHead : Letter → Head
+namedHead (Names k) = Of k
+namedHead Unknown = Refused answer.NoSuchKind
+
+-- 12
+unfoldable pub endedHead : List ℕ → Head
+endedHead bs = cond (eqb (getD bs (recordLength - 1) 0) lineFeed) (namedHead (kindOf (getD bs 0 0))) (Refused answer.NoLineFeed)
+
+-- 11
+unfoldable pub headOf : List ℕ → Head
+headOf bs = cond (eqb (length bs) recordLength) (endedHead bs) (Refused answer.NotARecord)

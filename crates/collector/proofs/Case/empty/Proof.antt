@@ -1,0 +1,21 @@
+-- The empty case. Assumes nothing.
+use Rattle.collector.specs.Cases.{loopsFrom, emptyCase}
+use borrow.Author.Needs.{needs}
+use Rattle.collector.proofs.Case.empty.Statement.{statement}
+use Rattle.collector.proofs.Case.empty.Tie as tie
+
+no-guard-requires : tie.Need-no-guard-requires
+no-guard-requires c κs = search needs
+
+no-move-requires : tie.Need-no-move-requires
+no-move-requires c κs = search needs
+
+no-place-requires : tie.Need-no-place-requires
+no-place-requires c κs = search needs
+
+returns : tie.Need-returns
+unfolding emptyCase loopsFrom
+returns c = simp (c .before .before .no-guard .ensures, c .before .no-move .ensures, c .no-place .ensures)
+
+pub empty-spec : {M : Type 1} → statement M
+empty-spec = tie.close (tie.spec no-guard-requires no-move-requires no-place-requires returns)

@@ -1,0 +1,186 @@
+-- What a file's records give, record by record. Assumes nothing.
+use mathlib.Core.Path.{_≡_, refl, _∙_, sym, ap, subst}
+use mathlib.Core.Bool.{Bool, true, false, cond}
+use mathlib.Core.List.{List, [], _∷_}
+use Prim.Native.Nat.{ℕ, zero, suc, _+_, _-_, _<_, _≤_, min}
+use native.Mathlib.Omega.{arith}
+use lib.Dec.{eqb, leb, ltb}
+use lib.ListN.{length, take, drop, getD, set, length-drop, drop-of-length-le}
+use lib.Seq.{take-all, take-length, drop-length, drop-drop}
+use borrow.Author.Tests.{eqb-true, ne-eqb, leb-true, leb-false}
+use Rattle.laws.specs.Lowest.{lowest}
+use Rattle.record.specs.declared.Record.{Record}
+use Rattle.record.specs.Layout.{recordLength, recordOf, lineFeed, cutFrom, cut}
+use Rattle.kinds.specs.declared.Kind.{Kind}
+use Rattle.kinds.specs.declared.Kind.the-variants as kind
+use Rattle.kinds.specs.declared.Counts.{Counts}
+use Rattle.kinds.specs.declared.Letter.{Letter}
+use Rattle.kinds.specs.declared.Letter.the-variants.{Names, Unknown}
+use Rattle.kinds.specs.Kinds.{kindOf, rankOf, countOf}
+use Rattle.kinds.specs.Table.{shapeOf}
+use Rattle.items.specs.declared.Place.{Place}
+use Rattle.items.specs.Items.{Item, itemOf}
+use Rattle.checks.specs.declared.Head.{Head}
+use Rattle.checks.specs.declared.Head.the-variants.{Of, Refused}
+use Rattle.answers.specs.declared.Answer.{Answer}
+use Rattle.answers.specs.declared.Answer.the-variants.{Taken, NotARecord, NoLineFeed, OutOfOrder, NoRoom}
+use Rattle.answers.specs.Answers.{numberOf, fieldOf, testOrder, turnOf, isTaken}
+use Rattle.answers.specs.Laws.{in-order}
+use Rattle.checks.specs.Input.{fieldsAnswer, namedHead, endedHead, headOf}
+use Rattle.collector.specs.declared.Loops.{Loops}
+use Rattle.collector.specs.declared.Case.{Case}
+use Rattle.collector.specs.declared.Result.{Result}
+use Rattle.collector.specs.declared.Collected.{Collected}
+use Rattle.items.specs.Lists.{roomOf}
+use Rattle.collector.specs.Cases.{oneMore, with, caseBy, changed, arraysOf}
+use Rattle.collector.specs.Taking.{lastRank, thereAnswer, roomAnswer, orderAnswer, recordAnswer, takenAs, takenBy, takenOf, collectedFrom, collectedOf}
+
+-- ---- the records of a file: none at its end, and else the next one and the rest
+
+pub cut-end : (n : ℕ) (bs : List ℕ) → length bs ≡ 0 → cutFrom n bs ≡ []
+unfolding cutFrom
+cut-end zero bs h = refl
+cut-end (suc n) [] h = refl
+cut-end (suc n) (b ∷ bs) h = absurd (omega arith)
+
+pub cut-next : (n n' : ℕ) (bs : List ℕ) → n ≡ n' + 1 → 0 < length bs → cutFrom n bs ≡ take recordLength bs ∷ cutFrom n' (drop recordLength bs)
+unfolding cutFrom
+cut-next zero n' bs p h = absurd (omega arith)
+cut-next (suc n) n' [] p h = absurd (omega arith)
+cut-next (suc n) n' (b ∷ bs) p h =
+    let q : n ≡ n' = omega arith in
+    ap (λ k. take recordLength (b ∷ bs) ∷ cutFrom k (drop recordLength (b ∷ bs))) q
+
+-- a part of n elements, or up to the end
+min-part : {A : Type 0} (n : ℕ) (s : List A) (t : Bool) → leb n (length s) ≡ t → (take (min n (length s)) s ≡ take n s) × (drop (min n (length s)) s ≡ drop n s)
+min-part n s true e =
+    let q : min n (length s) ≡ n = omega (arith, leb-true n (length s) e) in
+    (ap (λ k. take k s) q, ap (λ k. drop k s) q)
+min-part n s false e =
+    let l = leb-false n (length s) e in
+    let q : min n (length s) ≡ length s = omega arith in (
+      ap (λ k. take k s) q ∙ take-length s ∙ sym (take-all n s (omega arith)),
+      ap (λ k. drop k s) q ∙ drop-length s ∙ sym (drop-of-length-le s {i = n} (omega arith)),
+    )
+
+-- the bytes from `at` to where the record there ends, and those after them
+module _ (s : List ℕ) (at e : ℕ) (h : at ≤ length s) (p : e ≡ at + min recordLength (length s - at)) where
+  here : e - at ≡ min recordLength (length (drop at s))
+  here = omega (arith, length-drop at s)
+
+  pub part : take (e - at) (drop at s) ≡ take recordLength (drop at s)
+  part = ap (λ k. take k (drop at s)) here ∙ min-part recordLength (drop at s) _ refl .0
+
+  pub rest : drop e s ≡ drop recordLength (drop at s)
+  rest =
+      let q : e ≡ at + (e - at) = omega arith in
+      ap (λ k. drop k s) q ∙ sym (drop-drop (e - at) at s) ∙ ap (λ k. drop k (drop at s)) here ∙ min-part recordLength (drop at s) _ refl .1
+
+-- ---- the head of a record
+
+-- a head that says a kind is that of a whole record, and one that is refused is not taken
+abbrev Fair : List ℕ → Head → Type 0
+Fair bs (Of k) = length bs ≡ recordLength
+Fair bs (Refused a) = isTaken a ≡ false
+
+fair-named : (bs : List ℕ) → length bs ≡ recordLength → (l : Letter) → Fair bs (namedHead l)
+fair-named bs h (Names k) = h
+fair-named bs h Unknown = refl
+
+fair-ended : (bs : List ℕ) → length bs ≡ recordLength → (t : Bool) (l : Letter) → Fair bs (cond t (namedHead l) (Refused NoLineFeed))
+fair-ended bs h true l = fair-named bs h l
+fair-ended bs h false l = refl
+
+fair-cut : (bs : List ℕ) (t : Bool) → eqb (length bs) recordLength ≡ t → Fair bs (cond t (endedHead bs) (Refused NotARecord))
+unfolding endedHead
+fair-cut bs true e = fair-ended bs (eqb-true _ _ e) (eqb (getD bs (recordLength - 1) 0) lineFeed) (kindOf (getD bs 0 0))
+fair-cut bs false e = refl
+
+pub fair : (bs : List ℕ) (h : Head) → headOf bs ≡ h → Fair bs h
+unfolding headOf
+fair bs h e = subst (Fair bs) e (fair-cut bs _ refl)
+
+-- ---- one record: answered, and taken or not
+
+-- the case with the item that a record says
+abbrev pub stored : Case → Kind → Record → Case
+stored c k r = with c k (itemOf k (r .fields))
+
+pub kept : (c : Case) (k : Kind) (r : Record) (i : Kind) (x : Item i) → x ≡ itemOf i (r .fields) → k ≡ i → with c i x ≡ stored c k r
+kept c k r i x ex ei = ap (with c i) ex ∙ ap (λ j. with c j (itemOf j (r .fields))) (sym ei)
+
+-- a place stored and counted, with these loops
+abbrev pub placed : Case → Place → Loops → Case
+placed c x l = caseBy (oneMore (c .count) kind.Place) (record { loops = l }) (changed kind.Place (λ xs. set xs (c .count .places) x) (arraysOf c))
+
+-- what the records give where the next is r, of kind k, and is answered a, which takes it or not
+abbrev pub step : Case → ℕ → List (List ℕ) → Kind → Record → Answer → Bool → Collected
+step c m rs k r a t = cond t (collectedFrom (cond t (stored c k r) c) (m + 1) rs) (record { case = cond t (stored c k r) c; answer = a; taken = m })
+
+-- what the records give after the next is taken or not
+abbrev after : ℕ → List (List ℕ) → Result → Bool → Collected
+after m rs x t = cond t (collectedFrom (x .case) (m + 1) rs) (record { case = x .case; answer = x .answer; taken = m })
+
+pub run-next : (c : Case) (m : ℕ) (bs : List ℕ) (rs : List (List ℕ)) (k : Kind) (r : Record) (a : Answer) (t : Bool) → headOf bs ≡ Of k → r ≡ recordOf bs → a ≡ recordAnswer (c .count) (c .derived .loops) k r → isTaken a ≡ t → collectedFrom c m (bs ∷ rs) ≡ step c m rs k r a t
+unfolding collectedFrom takenOf takenAs
+run-next c m bs rs k r a t ek er ea et =
+    ap (λ h. after m rs (takenBy c h bs) (isTaken (takenBy c h bs .answer))) ek
+    ∙ ap (λ x. after m rs (takenAs c k x) (isTaken (takenAs c k x .answer))) (sym er)
+    ∙ ap (λ x. step c m rs k r x (isTaken x)) (sym ea)
+    ∙ ap (step c m rs k r a) et
+
+pub run-refused : (c : Case) (m : ℕ) (bs : List ℕ) (rs : List (List ℕ)) (a : Answer) → headOf bs ≡ Refused a → collectedFrom c m (bs ∷ rs) ≡ record { case = c; answer = a; taken = m }
+unfolding collectedFrom takenOf
+run-refused c m bs rs a e =
+    let y : Result = record { case = c; answer = a } in
+    ap (λ h. after m rs (takenBy c h bs) (isTaken (takenBy c h bs .answer))) e
+    ∙ ap (after m rs y) (fair bs (Refused a) e)
+
+-- ---- a record that is taken finds room
+
+passed : (t : Bool) (a b : Answer) → isTaken a ≡ false → isTaken (cond t a b) ≡ true → (t ≡ false) × (isTaken b ≡ true)
+passed true a b e h = absurd (let z : _≡_ {A = ℕ} 0 1 = cc in omega arith)
+passed false a b e h = (refl, h)
+
+well : (t : Bool) (a b : Answer) → isTaken b ≡ t → isTaken (cond t a b) ≡ true → isTaken a ≡ true
+well true a b e h = h
+well false a b e h = absurd (let z : _≡_ {A = ℕ} 0 1 = cc in omega arith)
+
+pub has-room : (n : Counts) (l : Loops) (k : Kind) (r : Record) → isTaken (recordAnswer n l k r) ≡ true → countOf n k < roomOf k
+unfolding recordAnswer orderAnswer roomAnswer shapeOf
+has-room n l k r h =
+    let s = shapeOf k r in
+    let o = well (isTaken (fieldsAnswer s r)) (orderAnswer n l s r) (fieldsAnswer s r) refl h in
+    let p = passed (ltb (rankOf k) (lastRank n)) OutOfOrder (roomAnswer n l s r) refl o .1 in
+    leb-false (roomOf k) (countOf n k) (passed (leb (roomOf k) (countOf n k)) NoRoom (thereAnswer n l s r) refl p .0)
+
+-- ---- a file of one record gives what taking it gives
+
+cut-one : (bs : List ℕ) → length bs ≡ recordLength → cut bs ≡ bs ∷ []
+unfolding cut
+cut-one bs h =
+    cut-next (length bs) (length bs - 1) bs (omega arith) (omega arith)
+    ∙ ap (λ rs. take recordLength bs ∷ rs) (cut-end (length bs - 1) (drop recordLength bs) (omega (arith, length-drop recordLength bs)))
+    ∙ ap (λ r. r ∷ []) (take-all recordLength bs (omega arith))
+
+is-so : (a : Answer) → isTaken a ≡ true → Taken ≡ a
+unfolding lowest
+is-so a h = sym (ap (λ n. getD (testOrder (fieldOf a)) (turnOf n) Taken) (eqb-true (numberOf a) 0 h)) ∙ in-order a
+
+abbrev answered : Collected → Result
+answered r = record { case = r .case; answer = r .answer }
+
+one : (x : Result) (t : Bool) → isTaken (x .answer) ≡ t → answered (after 0 [] x t) ≡ x
+unfolding collectedFrom
+one x true h = ap (λ a. record { case = x .case; answer = a }) (is-so (x .answer) h)
+one x false h = refl
+
+pub run-one : (c : Case) (bs : List ℕ) → length bs ≡ recordLength → answered (collectedOf c bs) ≡ takenOf c bs
+unfolding collectedOf collectedFrom
+run-one c bs h = ap (λ rs. answered (collectedFrom c 0 rs)) (cut-one bs h) ∙ one (takenOf c bs) _ refl
+
+pub not-one : (c : Case) (bs : List ℕ) → (length bs ≡ recordLength → ⊥) → record { case = c; answer = NotARecord } ≡ takenOf c bs
+unfolding takenOf headOf
+not-one c bs h =
+    let e : headOf bs ≡ Refused NotARecord = simp (ne-eqb _ _ h) in
+    sym (ap (λ x. takenBy c x bs) e)

@@ -1,0 +1,34 @@
+-- The rank of the last kind that is held. Assumes nothing.
+use borrow.Author.Needs.{needs}
+use Rattle.collector.proofs.last_rank.Statement.{statement}
+use Rattle.collector.proofs.last_rank.Tie as tie
+
+rank-requires : tie.Need-rank-requires
+rank-requires c κs = search needs
+
+rank-if-requires : tie.Need-rank-if-requires
+rank-if-requires c κs = search needs
+
+rank-if-requires-2 : tie.Need-rank-if-requires-2
+rank-if-requires-2 c κs = search needs
+
+rank-if-requires-3 : tie.Need-rank-if-requires-3
+rank-if-requires-3 c κs = search needs
+
+rank-if-requires-4 : tie.Need-rank-if-requires-4
+rank-if-requires-4 c κs = search needs
+
+returns : tie.Need-returns
+returns c =
+    simp (c .rank-if4 .ensures, c .before .rank-if3 .ensures, c .before .before .rank-if2 .ensures, c .before .before .before .rank-if .ensures, c .before .before .before .before .rank .ensures)
+
+pub last-rank-spec : {M : Type 1} → statement M
+last-rank-spec =
+    tie.close
+    (tie.spec
+    rank-requires
+    rank-if-requires
+    rank-if-requires-2
+    rank-if-requires-3
+    rank-if-requires-4
+    returns)

@@ -1,0 +1,68 @@
+-- What every case that is made by taking records has: one invariant.
+use mathlib.Core.Path.{_≡_}
+use mathlib.Core.Logic.{_↔_}
+use mathlib.Core.List.{List}
+use mathlib.Core.Bool.{true}
+use Prim.Native.Nat.{ℕ, _≤_, _<_}
+use lib.ListN.{length, getD}
+use Rattle.record.specs.declared.Field.{Field}
+use Rattle.kinds.specs.declared.Kind.{Kind}
+use Rattle.kinds.specs.declared.Kind.the-variants as kind
+use Rattle.kinds.specs.declared.Counts.{Counts}
+use Rattle.kinds.specs.declared.Shape.{Shape}
+use Rattle.kinds.specs.Kinds.{countOf}
+use Rattle.kinds.specs.Table.{shapeOf}
+use Rattle.items.specs.declared.Ref.the-variants as ref
+use Rattle.items.specs.declared.LoopMark.the-variants as mark
+use Rattle.items.specs.declared.Place.{Place}
+use Rattle.items.specs.Items.{itemOf, rowOf}
+use Rattle.collector.specs.declared.Case.{Case}
+use Rattle.items.specs.Lists.{listOf, roomOf, noItem}
+use Rattle.collector.specs.Cases.{itemsOf, caseOf}
+use Rattle.rules.specs.Rules.{IsBad, IsMissing, IsExtra, IsOutside, IsNotThere, markAt, isEndless, endAt}
+
+-- the shape of a row of fields
+abbrev pub shape : Kind → List Field → Shape
+shape k r = shapeOf k (record { fields = r })
+
+-- a row of fields of kind k meets its rules
+pub record Fit (k : Kind) (r : List Field) : Type 0 where
+  pub spelled : (f : ℕ) → IsBad r f → ⊥
+  pub full : (f : ℕ) → IsMissing k r f → ⊥
+  pub bare : (f : ℕ) → IsExtra k r f → ⊥
+  pub ranged : (f : ℕ) → IsOutside k r f → ⊥
+
+-- every item that it refers to is there, where so many are held
+abbrev pub There : Counts → Kind → List Field → Type 0
+There n k r = (f : ℕ) → IsNotThere n k r f → ⊥
+
+-- item i of a kind refers to what is held; sentence i to sentences below i
+abbrev pub reach : Counts → Kind → ℕ → Counts
+reach n kind.State i = n
+reach n kind.Guard i = n
+reach n kind.Move i = n
+reach n kind.Sentence i = record { states = n .states; guards = n .guards; moves = n .moves; sentences = i; places = n .places }
+reach n kind.Place i = n
+
+-- loops don't overlap and lie within the room for places; the endless one comes once and last
+pub record LoopsApart (ps : List Place) : Type 0 where
+  pub apart : (p q : ℕ) → p < q → q < length ps → (markAt ps q ≡ mark.None → ⊥) → endAt ps p ≤ q
+  pub within : (p : ℕ) → p < length ps → endAt ps p ≤ roomOf kind.Place
+  pub last : (p : ℕ) → isEndless (markAt ps p) ≡ true → length ps ≤ endAt ps p
+
+-- what every case has that records make
+pub record Sound (c : Case) : Type 0 where
+  -- it is its items: all else follows from them
+  pub same : c ≡ caseOf (itemsOf c)
+  -- they are within the room
+  pub room : (k : Kind) → countOf (c .count) k ≤ roomOf k
+  -- every item meets the rules of its kind: what is needed is there, all numbers are in their ranges, references point at what is there
+  pub fit : (k : Kind) (i : ℕ) → i < countOf (c .count) k → Fit k (rowOf k (getD (listOf k (itemsOf c)) i (noItem k)))
+  pub there : (k : Kind) (i : ℕ) → i < countOf (c .count) k → There (reach (c .count) k i) k (rowOf k (getD (listOf k (itemsOf c)) i (noItem k)))
+  -- and is what its fields become
+  pub read :
+      (k : Kind) (i : ℕ) → i < countOf (c .count) k →
+      itemOf k (rowOf k (getD (listOf k (itemsOf c)) i (noItem k))) ≡ getD (listOf k (itemsOf c)) i (noItem k)
+  -- field 2 is blank exactly at place 0
+  pub ways : (i : ℕ) → i < c .count .places → (i ≡ 0) ↔ (getD (itemsOf c .places) i (noItem kind.Place) .way ≡ ref.None)
+  pub loops : LoopsApart (itemsOf c .places)

@@ -1,3 +1,0 @@
-pub mod Faults
-pub mod Answers
-pub mod Input

@@ -1,0 +1,12 @@
+pub mod Order
+pub mod Signed
+pub mod Arithmetic
+pub mod Sizes
+pub mod Tests
+pub mod Cases
+pub mod Lists
+pub mod All
+pub mod Members
+pub mod Tab
+pub mod Lowest
+pub mod Down

@@ -1,0 +1,175 @@
+-- Taking never looks at the number of rounds, but for its range: two files that differ in it alone are taken alike. Assumes nothing.
+use mathlib.Core.Path.{_≡_, refl, _∙_, sym, ap, ap₂, subst, subst₂, fun-ext}
+use mathlib.Core.List.{List, [], _∷_, _++_}
+use mathlib.Core.Bool.{Bool, true, false, cond}
+use Prim.Native.Nat.{ℕ, zero, suc, _+_}
+use lib.IntN.{ℤ}
+use lib.ListN.{getD}
+use Rattle.laws.specs.Lowest.{lowest}
+use Rattle.record.specs.declared.Content.{Content}
+use Rattle.record.specs.declared.Content.the-variants.{Blank, Number, Bad}
+use Rattle.record.specs.declared.Field.{Field}
+use Rattle.record.specs.declared.Record.{Record}
+use Rattle.record.specs.Layout.{fields, recordOf}
+use Rattle.kinds.specs.declared.Kind.{Kind}
+use Rattle.kinds.specs.declared.Kind.the-variants.{State, Guard, Move, Sentence, Place}
+use Rattle.kinds.specs.declared.Counts.{Counts}
+use Rattle.kinds.specs.declared.Sort.the-variants.{Rounds}
+use Rattle.kinds.specs.Table.{rangeOf, shapeOf, ruleAt}
+use Rattle.checks.specs.declared.Fault.{Fault}
+use Rattle.checks.specs.declared.Fault.the-variants.{Misspelled, Missing, Extra, OutOfRange, NotThere}
+use Rattle.checks.specs.Faults.{beyond, faultAt, lowestFault}
+use Rattle.checks.specs.Input.{headOf, rangeAnswer, extraAnswer, missingAnswer, formAnswer, fieldsAnswer}
+use Rattle.items.specs.Items.{Item, itemOf, placeOf, markOf}
+use Rattle.collector.specs.declared.Case.{Case}
+use Rattle.collector.specs.declared.Loops.{Loops}
+use Rattle.collector.specs.declared.Result.{Result}
+use Rattle.collector.specs.declared.Collected.{Collected}
+use Rattle.collector.specs.Cases.{oneMore, loopsAfter, with}
+use Rattle.answers.specs.Answers.{isTaken}
+use Rattle.collector.specs.Taking.{recordAnswer, orderAnswer, roomAnswer, thereAnswer, placeAnswer, markAnswer, wayAnswer, takenAs, takenBy, takenOf, collectedFrom}
+use Rattle.rules.specs.Rules.{IsA}
+use Rattle.rules_laws.specs.Letters.{one-kind, by-head}
+use Rattle.meaning_laws.specs.Around.{rowWith}
+
+-- ---- what taking looks at in a case
+
+-- two cases have the same counts, and the same loops beside the items; two results so, and one answer
+abbrev Same : Case → Case → Type 0
+Same c d = (c .count ≡ d .count) × (c .derived .loops ≡ d .derived .loops)
+
+abbrev SameResult : Result → Result → Type 0
+SameResult t u = (t .answer ≡ u .answer) × Same (t .case) (u .case)
+
+same-with : (c d : Case) → Same c d → (k : Kind) (x : Item k) → Same (with c k x) (with d k x)
+same-with c d s State x = (ap (λ n. oneMore n State) (s .0), s .1)
+same-with c d s Guard x = (ap (λ n. oneMore n Guard) (s .0), s .1)
+same-with c d s Move x = (ap (λ n. oneMore n Move) (s .0), s .1)
+same-with c d s Sentence x = (ap (λ n. oneMore n Sentence) (s .0), s .1)
+same-with c d s Place x = (ap (λ n. oneMore n Place) (s .0), ap₂ (λ l n. loopsAfter l (n .places) (x .mark)) (s .1) (s .0))
+
+-- two rows of kind k are answered alike, and their items leave the same counts and loops
+record AlikeAs (k : Kind) (r q : Record) : Type 0 where
+  answer : (n : Counts) (l : Loops) → recordAnswer n l k r ≡ recordAnswer n l k q
+  item : (c : Case) → Same (with c k (itemOf k (r .fields))) (with c k (itemOf k (q .fields)))
+
+-- two records are taken alike, and so are two rows of records, where the cases held are alike
+abbrev Alike : List ℕ → List ℕ → Type 0
+Alike b e = (c d : Case) → Same c d → SameResult (takenOf c b) (takenOf d e)
+
+abbrev AllAlike : List (List ℕ) → List (List ℕ) → Type 0
+AllAlike rs qs = (c d : Case) (m : ℕ) → Same c d → collectedFrom c m rs .answer ≡ collectedFrom d m qs .answer
+
+alike-as : (c d : Case) (k : Kind) (r q : Record) → Same c d → AlikeAs k r q → SameResult (takenAs c k r) (takenAs d k q)
+unfolding takenAs
+alike-as c d k r q s a =
+    let t = isTaken (recordAnswer (c .count) (c .derived .loops) k r) in
+    (e, subst (λ u. Same (cond t (with c k x) c) (cond u (with d k y) d)) (ap isTaken e) (go t))
+  where
+    x : Item k
+    x = itemOf k (r .fields)
+
+    y : Item k
+    y = itemOf k (q .fields)
+
+    e : recordAnswer (c .count) (c .derived .loops) k r ≡ recordAnswer (d .count) (d .derived .loops) k q
+    e = ap₂ (λ n l. recordAnswer n l k r) (s .0) (s .1) ∙ a .answer (d .count) (d .derived .loops)
+
+    go : (t : Bool) → Same (cond t (with c k x) c) (cond t (with d k y) d)
+    go true = let u = same-with c d s k x in let v = a .item d in (u .0 ∙ v .0, u .1 ∙ v .1)
+    go false = s
+
+-- records with one head whose rows are alike are taken alike
+alike-by : (b e : List ℕ) → headOf e ≡ headOf b → ((k : Kind) → IsA k b → AlikeAs k (recordOf b) (recordOf e)) → Alike b e
+unfolding takenOf
+alike-by b e h f c d s =
+    subst (λ w. SameResult (takenBy c (headOf b) b) (takenBy d w e)) (sym h)
+    (by-head b (λ w. SameResult (takenBy c w b) (takenBy d w e))
+    (λ p. (refl, s)) (λ p q. (refl, s)) (λ p q r. (refl, s)) (λ p q k is. alike-as c d k (recordOf b) (recordOf e) s (f k is)))
+
+alike-self : (b : List ℕ) → Alike b b
+alike-self b = alike-by b b refl (λ k is. record { answer = λ n l. refl; item = λ c. (refl, refl) })
+
+-- ---- a place
+
+-- a number of rounds in its range
+abbrev pub InRange : ℤ → Type 0
+InRange z = beyond (rangeOf Rounds) (Number z) ≡ false
+
+module _ (g : ℕ → Field) where
+  -- the place with z rounds
+  abbrev rounds : ℤ → Record
+  rounds z = record { fields = rowWith g (Number z) }
+
+  module _ (y z : ℤ) (p : InRange y) (q : InRange z) where
+    same-fault : (f : Fault) (k : ℕ) → faultAt f (shapeOf Place (rounds y)) (rounds y) k ≡ faultAt f (shapeOf Place (rounds z)) (rounds z) k
+    unfolding ruleAt shapeOf
+    same-fault f zero = refl
+    same-fault f (suc zero) = refl
+    same-fault f (suc (suc zero)) = refl
+    same-fault f (suc (suc (suc zero))) = refl
+    same-fault f (suc (suc (suc (suc zero)))) = refl
+    same-fault Misspelled (suc (suc (suc (suc (suc zero))))) = refl
+    same-fault Missing (suc (suc (suc (suc (suc zero))))) = refl
+    same-fault Extra (suc (suc (suc (suc (suc zero))))) = refl
+    same-fault OutOfRange (suc (suc (suc (suc (suc zero))))) = p ∙ sym q
+    same-fault (NotThere n) (suc (suc (suc (suc (suc zero))))) = refl
+    same-fault f (suc (suc (suc (suc (suc (suc k)))))) = refl
+
+    same-lowest : (f : Fault) → lowestFault f (shapeOf Place (rounds y)) (rounds y) ≡ lowestFault f (shapeOf Place (rounds z)) (rounds z)
+    unfolding lowestFault
+    same-lowest f = ap (lowest fields 1) (fun-ext (same-fault f))
+
+    same-answer : (n : Counts) (l : Loops) → recordAnswer n l Place (rounds y) ≡ recordAnswer n l Place (rounds z)
+    unfolding recordAnswer fieldsAnswer formAnswer missingAnswer extraAnswer rangeAnswer orderAnswer roomAnswer thereAnswer placeAnswer markAnswer wayAnswer shapeOf
+    same-answer n l = rw (same-lowest Misspelled, same-lowest Missing, same-lowest Extra, same-lowest OutOfRange, same-lowest (NotThere n))
+
+    same-loops : (l : Loops) (n : ℕ) (c b : Content) → loopsAfter l n (markOf c (Number y) b) ≡ loopsAfter l n (markOf c (Number z) b)
+    unfolding markOf
+    same-loops l n Blank b = refl
+    same-loops l n (Number x) b = refl
+    same-loops l n Bad b = refl
+
+    alike-rounds : AlikeAs Place (rounds y) (rounds z)
+    unfolding placeOf
+    alike-rounds =
+        record {
+          answer = same-answer;
+          item = λ c. (refl, same-loops (c .derived .loops) (c .count .places) (g 4 .content) (g 6 .content));
+        }
+
+-- two records of places that differ in their rounds alone are taken alike
+pub alike-places : (b e : List ℕ) (g : ℕ → Field) (y z : ℤ) → IsA Place b → headOf e ≡ headOf b → InRange y → InRange z →
+    recordOf b ≡ rounds g y → recordOf e ≡ rounds g z → Alike b e
+alike-places b e g y z is h p q v w =
+    alike-by b e h (λ k a.
+    subst (λ j. AlikeAs j (recordOf b) (recordOf e)) (one-kind (getD b 0 0) Place k is a)
+    (subst₂ (AlikeAs Place) (sym v) (sym w) (alike-rounds g y z p q)))
+
+-- ---- rows of records
+
+answer-cond : (t : Bool) (p q : Collected) → cond t p q .answer ≡ cond t (p .answer) (q .answer)
+answer-cond true p q = refl
+answer-cond false p q = refl
+
+alike-cons : (b e : List ℕ) (rs qs : List (List ℕ)) → Alike b e → AllAlike rs qs → AllAlike (b ∷ rs) (e ∷ qs)
+unfolding collectedFrom
+alike-cons b e rs qs a f c d m s =
+    let w = a c d s in
+    answer-cond (isTaken (takenOf c b .answer)) _ _
+    ∙ ap₂ (λ v u. cond (isTaken v) u v) (w .0) (f (takenOf c b .case) (takenOf d e .case) (m + 1) (w .1))
+    ∙ sym (answer-cond (isTaken (takenOf d e .answer)) _ _)
+
+alike-on : (ps rs qs : List (List ℕ)) → AllAlike rs qs → AllAlike (ps ++ rs) (ps ++ qs)
+alike-on [] rs qs f = f
+alike-on (b ∷ ps) rs qs f = alike-cons b b (ps ++ rs) (ps ++ qs) (alike-self b) (alike-on ps rs qs f)
+
+all-self : (rs : List (List ℕ)) → AllAlike rs rs
+unfolding collectedFrom
+all-self [] = λ c d m s. refl
+all-self (b ∷ rs) = alike-cons b b rs rs (alike-self b) (all-self rs)
+
+-- with either of two records that are taken alike, the others are taken alike
+pub same-run : (ps qs : List (List ℕ)) (b e : List ℕ) → Alike b e → (c : Case) (m : ℕ) →
+    collectedFrom c m (ps ++ (b ∷ qs)) .answer ≡ collectedFrom c m (ps ++ (e ∷ qs)) .answer
+same-run ps qs b e a c m = alike-on ps (b ∷ qs) (e ∷ qs) (alike-cons b e qs qs a (all-self qs)) c c m (refl, refl)

@@ -1,0 +1,101 @@
+-- Truth is decided at every moment, where the marks of the sentences below are right. Assumes nothing.
+use mathlib.Core.Path.{_≡_, refl, sym, _∙_, ap}
+use mathlib.Core.Logic.{_↔_, _⊎_, inl, inr, ⊎-elim, Iff·symm}
+use mathlib.Core.Bool.{Bool, true, false, false≢true}
+use Prim.Native.Nat.{ℕ, suc, _+_, _-_, _*_, _/_, _%_, _≤_, _<_}
+use native.Mathlib.Nat.{div-add-mod', mod-lt}
+use native.Mathlib.Omega.{arith}
+use lib.ListN.{length, getD}
+use Rattle.kinds.specs.declared.Kind.the-variants as kind
+use Rattle.items.specs.declared.LoopMark.{LoopMark}
+use Rattle.items.specs.declared.LoopMark.the-variants as mark
+use Rattle.items.specs.declared.Form.{Form}
+use Rattle.items.specs.declared.Form.the-variants as form
+use Rattle.items.specs.Lists.{Items, noItem}
+use Rattle.rules.specs.Rules.{markAt, lengthOf, isEndless, Closed}
+use Rattle.laws.specs.Arithmetic.{le-out, le-or}
+use Rattle.counters.specs.Sum.{Valuation, sum}
+use Rattle.meaning.specs.Run.{Moment, here, stretch, goesAgain, spot, guardAt}
+use Rattle.meaning.specs.Truth.{Says, bit}
+use Rattle.meaning.specs.Judged.{marked, TrueAt, traceOf}
+use Rattle.meaning_laws.specs.Facts.{Facts, Laid, Refers}
+use Rattle.meaning_laws.specs.Walk.{Reached, reach, in-stretch}
+use Rattle.meaning_laws.specs.Counting.{Decided, gets-decided}
+use Rattle.verdict.specs.Labels.{labelOf}
+use Rattle.meaning_laws.specs.Below.{RightBelow, SaysBelow, says-below, until-labels}
+
+-- ---- the endless loop comes again and again
+
+-- what an endless loop mark tells
+endless : (k : LoopMark) → isEndless k ≡ true → (stretch k ≡ lengthOf k) × ((r : ℕ) → goesAgain k r ≡ true) × (k ≡ mark.None → ⊥)
+endless mark.None e = absurd (false≢true e)
+endless (mark.Counted l n b) e = absurd (false≢true e)
+endless (mark.Endless l b) e = (refl, λ r. refl, λ q. let z : _≡_ {A = ℕ} 0 1 = cc in omega arith)
+
+-- from some moment on, the run is where it was a round before
+record Again (x : Items) : Type 0 where
+  pub moment : Moment
+  pub round : ℕ
+  pub long : 1 ≤ round
+  pub same : (j : ℕ) → moment ≤ j → here (spot (x .places) (j + round)) ≡ here (spot (x .places) j)
+
+comes-again : (x : Items) → Laid (x .places) → Closed x → Again x
+comes-again x laid c =
+    record {
+      moment = to .moment;
+      round = L;
+      long = laid .long q;
+      same = λ j h. let d = j - to .moment in by-round j (d / L) (d % L) h (div-add-mod' d L) (mod-lt d (laid .long q));
+    }
+  where
+    q : ℕ
+    q = c .first
+
+    L : ℕ
+    L = stretch (markAt (x .places) q)
+
+    is : (L ≡ lengthOf (markAt (x .places) q)) × ((r : ℕ) → goesAgain (markAt (x .places) q) r ≡ true) × (markAt (x .places) q ≡ mark.None → ⊥)
+    is = endless (markAt (x .places) q) (c .endless)
+
+    to : Reached (x .places) q
+    to = reach (x .places) laid q (omega (arith, laid .long q, is .0, c .whole)) (is .2)
+
+    place : (j r o : ℕ) → j ≡ to .moment + (r * L + o) → o < L → here (spot (x .places) j) ≡ q + o
+    place j r o e h = ap (λ i. here (spot (x .places) i)) e ∙ ap here (in-stretch (x .places) q (to .moment) (laid .long q) (to .there) r o (λ i w. is .1 i) h)
+
+    by-round : (j r o : ℕ) → to .moment ≤ j → r * L + o ≡ j - to .moment → o < L → here (spot (x .places) (j + L)) ≡ here (spot (x .places) j)
+    by-round j r o h e w = place (j + L) (suc r) o (omega arith) w ∙ sym (place j r o (omega arith) w)
+
+-- ---- sentences
+
+bool-decided : (t : Bool) → Decided (t ≡ true)
+bool-decided true = inl refl
+bool-decided false = inr false≢true
+
+iff-decided : {A B : Type 0} → A ↔ B → Decided A → Decided B
+iff-decided h (inl a) = inl (h .0 a)
+iff-decided h (inr n) = inr (λ b. n (h .1 b))
+
+module _ (x : Items) (facts : Facts x) (c : Closed x) (θ : Valuation) (i : ℕ) (right : RightBelow x θ i) where
+  below-decided : (j : ℕ) → j < i → (m : Moment) → Decided (SaysBelow x θ i j m)
+  below-decided j h m = rw (says-below x θ i j h m) (iff-decided (right j h m) (bool-decided (marked x j (here (spot (x .places) m)))))
+
+  says-decided : (s : Form) → Refers i s → (m : Moment) → Decided (Says (x .guards) (traceOf x θ) (SaysBelow x θ i) s m)
+  says-decided form.True r m = inl tt
+  says-decided (form.Proposition p) r m = bool-decided (bit (traceOf x θ .propositions m) p)
+  says-decided (form.Guard g) r m = ⊎-elim inl (λ w. inr (λ h. omega (arith, le-out h, w)))
+      (le-or (guardAt (x .guards) g .bound) (sum (guardAt (x .guards) g .coefficients .at) (traceOf x θ .counters m)))
+  says-decided (form.And a b) r m = ⊎-elim
+      (λ p. ⊎-elim (λ q. inl (p, q)) (λ n. inr (λ h. n (h .1))) (below-decided b (r .1) m))
+      (λ n. inr (λ h. n (h .0)))
+      (below-decided a (r .0) m)
+  says-decided (form.Not a) r m = ⊎-elim (λ p. inr (λ n. n p)) inl (below-decided a r m)
+  says-decided (form.Next a) r m = below-decided a r (suc m)
+  says-decided (form.Until a b z t u) r m = let e = comes-again x (facts .laid) c in
+      iff-decided (Iff·symm (until-labels x θ i a b z t u r right m))
+      (gets-decided (λ k. labelOf (marked x) a b t u (here (spot (x .places) k))) (e .moment) (e .round) (e .long) (λ j h. ap (labelOf (marked x) a b t u) (e .same j h)) z m)
+
+pub decided : (x : Items) → Facts x → Closed x → (θ : Valuation) (i : ℕ) → i < length (x .sentences)
+    → ((j : ℕ) → j < i → (m : Moment) → (marked x j (here (spot (x .places) m)) ≡ true) ↔ TrueAt x θ j m)
+    → (m : Moment) → TrueAt x θ i m ⊎ (TrueAt x θ i m → ⊥)
+decided x facts c θ i h right m = says-decided x facts c θ i right (getD (x .sentences) i (noItem kind.Sentence) .form) (facts .refers i h) m

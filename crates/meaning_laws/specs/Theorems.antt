@@ -1,0 +1,119 @@
+-- What is proved of the meaning: start here. The run is in Run.antt, truth in Truth.antt, acceptance and each answer in Judged.antt, demand 2 in its own
+-- words in Paper.antt, the files that are accepted in Files.antt. `Sound` is the invariant of every case that records make (crate rules). Assumes nothing.
+use mathlib.Core.Path.{_≡_}
+use mathlib.Core.Logic.{_↔_, _⊎_}
+use mathlib.Core.List.{List, _++_}
+use mathlib.Core.Bool.{true}
+use Prim.Native.Nat.{ℕ, _+_, _*_, _≤_, _<_}
+use native.Mathlib.Omega.{arith}
+use lib.IntN.{ℤ}
+use lib.Signed.{_≤ℤ_}
+use lib.ListN.{length, getD}
+use Rattle.laws.specs.Sizes.{size-within, Within}
+use Rattle.kinds.specs.declared.Kind.the-variants as kind
+use Rattle.kinds.specs.Kinds.{letterOf}
+use Rattle.kinds.specs.Table as table
+use Rattle.record.specs.Layout.{recordLength, cut}
+use Rattle.record.specs.Spell.{IsSpelling}
+use Rattle.counters.specs.Sum.{Valuation, sum}
+use Rattle.items.specs.declared.LoopMark.the-variants as mark
+use Rattle.items.specs.declared.Guard.{Guard}
+use Rattle.items.specs.declared.Sentence.{Sentence}
+use Rattle.collector.specs.declared.Case.{Case}
+use Rattle.collector.specs.Cases.{emptyCase, itemsOf}
+use Rattle.items.specs.Lists.{Items}
+use Rattle.answers.specs.Answers.{isTaken, numbersOf}
+use Rattle.collector.specs.Taking.{collectedOf}
+use Rattle.rules.specs.Rules.{markAt, Closed}
+use Rattle.collector.specs.Sound.{Sound}
+use Rattle.answers.specs.declared.Judgement.{Judgement}
+use Rattle.meaning.specs.Run.{Moment, here, spot, countersAt, guardAt, Early}
+use Rattle.meaning.specs.Truth.{Trace, True}
+use Rattle.meaning.specs.Judged.{Finished, IsAccepted, Judged, marked, TrueAt, startOf}
+use Rattle.meaning.specs.Paper.{Means}
+use Rattle.rules.specs.Files.{AllTaken}
+use Rattle.meaning.specs.Files.{FileAccepted, roundsAt}
+use Rattle.meaning.specs.Rounds.{withRounds}
+use Rattle.meaning_laws.specs.Given.{facts}
+use Rattle.meaning_laws.specs.Answers as answers
+use Rattle.meaning_laws.specs.Second as second
+use Rattle.meaning_laws.specs.Decided as truth
+use Rattle.meaning_laws.specs.Ceilings as ceilings
+use Rattle.meaning_laws.specs.Third as third
+use Rattle.meaning_laws.specs.AllTaken as taking
+use Rattle.meaning_laws.specs.FilesBetween as files
+
+-- ---- the answers
+
+-- the meaning leaves one answer
+pub one-answer : (x : Items) (θ : Valuation) (a b : Judgement) → Judged x θ a → Judged x θ b → a ≡ b
+one-answer = answers.one-answer
+
+-- the result is 0 where the case is accepted; every other answer excludes it
+pub zero-accepts : (x : Items) (θ : Valuation) (a : Judgement) → Judged x θ a → (numbersOf a .result ≡ 0) ↔ IsAccepted x θ
+zero-accepts = answers.zero-accepts
+
+-- ---- demand 2 in its own words
+
+-- a case with a sentence and a closed endless loop is accepted exactly where its named moves connect and make a run of the counter system, every sentence
+-- at every place is marked as it is at every moment of that place, and the last sentence is true at the start
+pub means : (c : Case) → Sound c → Finished (itemsOf c) → (θ : Valuation) → IsAccepted (itemsOf c) θ ↔ Means (itemsOf c) θ
+means c s = second.means (itemsOf c) (facts c s)
+
+-- ---- truth
+
+-- truth is decided at every moment, where the marks of the sentences below are right
+pub decided : (c : Case) → Sound c → Closed (itemsOf c) → (θ : Valuation) (i : ℕ) → i < length (itemsOf c .sentences) →
+    ((j : ℕ) → j < i → (m : Moment) → (marked (itemsOf c) j (here (spot (itemsOf c .places) m)) ≡ true) ↔ TrueAt (itemsOf c) θ j m) →
+    (m : Moment) → TrueAt (itemsOf c) θ i m ⊎ (TrueAt (itemsOf c) θ i m → ⊥)
+decided c s = truth.decided (itemsOf c) (facts c s)
+
+-- runs that show the same propositions and counters have the same truth
+pub same-truth : (gs : List Guard) (fs : List Sentence) (t u : Trace) →
+    ((m : Moment) → t .propositions m ≡ u .propositions m) → ((m : Moment) (j : ℕ) → t .counters m j ≡ u .counters m j) →
+    (s : ℕ) (i : Moment) → True gs fs t s i ≡ True gs fs u s i
+same-truth = answers.same-truth
+
+-- ---- document 01's ceilings
+
+-- before the end of the endless loop's first round no counter passes 640,000,000,000 either way, and no sum of a guard 3,000,000,000,000,000,
+-- beside what the start adds: b to a counter, where all are within b, and to a sum 999 * b for each counter
+pub counter-ceiling-from : (c : Case) → Sound c → (θ : Valuation) (b : ℕ) → ((j : ℕ) → Within b (θ j)) →
+    (m : Moment) → Early (itemsOf c .places) m → (j : ℕ) → Within (640000000000 + b) (countersAt (itemsOf c) θ m j)
+counter-ceiling-from c s = ceilings.counter-ceiling (itemsOf c) (facts c s)
+
+pub sum-ceiling-from : (c : Case) → Sound c → (θ : Valuation) (b : ℕ) → ((j : ℕ) → Within b (θ j)) →
+    (m : Moment) → Early (itemsOf c .places) m → (g : ℕ) →
+    Within (3000000000000000 + table.counters * 999 * b) (sum (guardAt (itemsOf c .guards) g .coefficients .at) (countersAt (itemsOf c) θ m))
+sum-ceiling-from c s = ceilings.sum-ceiling (itemsOf c) (facts c s)
+
+-- as each case starts
+pub counter-ceiling : (c : Case) → Sound c → (m : Moment) → Early (itemsOf c .places) m → (j : ℕ) →
+    Within 640000000000 (countersAt (itemsOf c) (startOf (itemsOf c)) m j)
+unfolding startOf
+counter-ceiling c s = counter-ceiling-from c s (startOf (itemsOf c)) 0 (λ j. size-within 0 (startOf (itemsOf c) j) (omega arith))
+
+pub sum-ceiling : (c : Case) → Sound c → (m : Moment) → Early (itemsOf c .places) m → (g : ℕ) →
+    Within 3000000000000000 (sum (guardAt (itemsOf c .guards) g .coefficients .at) (countersAt (itemsOf c) (startOf (itemsOf c)) m))
+unfolding startOf
+sum-ceiling c s = sum-ceiling-from c s (startOf (itemsOf c)) 0 (λ j. size-within 0 (startOf (itemsOf c) j) (omega arith))
+
+-- ---- demand 3 of the meaning
+
+-- every number of rounds of one counted loop between two accepted ones is accepted
+pub between : (c : Case) → Sound c → (p l n back : ℕ) → p < length (itemsOf c .places) → markAt (itemsOf c .places) p ≡ mark.Counted l n back →
+    (i j k : ℕ) → 1 ≤ i → i ≤ j → j ≤ k → (θ : Valuation) →
+    IsAccepted (withRounds (itemsOf c) p i) θ → IsAccepted (withRounds (itemsOf c) p k) θ → IsAccepted (withRounds (itemsOf c) p j) θ
+between c s = third.between (itemsOf c) (facts c s)
+
+-- all records of a file are taken by the rules exactly where the collector takes them
+pub all-taken : (bs : List ℕ) → AllTaken (cut bs) ↔ (isTaken (collectedOf emptyCase bs .answer) ≡ true)
+all-taken = taking.all-taken
+
+-- for three files alike in every byte but the seven of the rounds field of one counted loop, which spell a ≤ b ≤ c: if those with a and c are
+-- accepted, so is the one with b. The first byte of record i is P, and the field begins `roundsAt` bytes after it
+pub file-between : (pre post fa fb fc : List ℕ) (i : ℕ) (a b c : ℤ) →
+    length pre ≡ recordLength * i + roundsAt → getD pre (recordLength * i) 0 ≡ letterOf kind.Place →
+    IsSpelling fa a → IsSpelling fb b → IsSpelling fc c → a ≤ℤ b → b ≤ℤ c →
+    FileAccepted (pre ++ (fa ++ post)) → FileAccepted (pre ++ (fc ++ post)) → FileAccepted (pre ++ (fb ++ post))
+file-between = files.file-between

@@ -1,0 +1,80 @@
+-- What the spelling of a field means: each number from -999,999 to 9,999,999 has one spelling, and seven bytes are blank, the spelling of a
+-- number, or refused. Assumes nothing.
+use mathlib.Core.Path.{_≡_, refl, _∙_, sym, ap, subst}
+use mathlib.Core.Logic.{_↔_}
+use mathlib.Core.List.{List, _++_}
+use Prim.Native.Nat.{ℕ, zero, suc, _+_, _-_}
+use native.Mathlib.Omega.{arith}
+use lib.Dec.{leb→le, le→leb}
+use lib.IntN.{ℤ, pos, negsuc, negℤ}
+use lib.Signed.{_≤ℤ_}
+use lib.ListN.{length, replicate, length-append, length-replicate}
+use Rattle.record.specs.declared.Content.{Content}
+use Rattle.record.specs.declared.Content.the-variants.{Blank, Number, Bad}
+use Rattle.record.specs.Spelling.{space, contentOf}
+use Rattle.record.specs.Spell.{token, spell, Spellable, ReadAs, IsSpelling}
+use Rattle.record.specs.Layout.{width}
+use Rattle.record_laws.specs.Reading.{token-fits, token-reads, after-spaces, Says, says}
+
+-- each number of the range has a spelling of seven bytes
+pub spell-length : (z : ℤ) → Spellable z → length (spell z) ≡ width
+unfolding spell
+spell-length z h =
+    omega (arith, token-fits z .0 h, length-append (replicate (width - length (token z)) space) (token z), length-replicate (width - length (token z)) space)
+
+-- a number's spelling is read as the number
+pub spell-reads : (z : ℤ) → contentOf (spell z) ≡ Number z
+unfolding spell
+spell-reads z = after-spaces (width - length (token z)) (token z) ∙ token-reads z
+
+-- seven bytes that are read as a number are the spelling of that number: no number is read in part
+pub one-spelling : (bs : List ℕ) (z : ℤ) → length bs ≡ width → contentOf bs ≡ Number z → (bs ≡ spell z) × Spellable z
+unfolding spell
+one-spelling bs z l e =
+    let (k, t) = subst (Says bs) e (says bs) in
+    let n : length bs ≡ k + length (token z) = ap length t ∙ length-append (replicate k space) (token z) ∙ ap (λ i. i + length (token z)) (length-replicate k space) in
+    let q : k ≡ width - length (token z) = omega arith in
+    (t ∙ ap (λ i. replicate i space ++ token z) q, token-fits z .1 (omega arith))
+
+-- spaces are blank
+pub spaces-blank : (n : ℕ) → contentOf (replicate n space) ≡ Blank
+unfolding contentOf
+spaces-blank zero = refl
+spaces-blank (suc n) = spaces-blank n
+
+-- what is blank is spaces
+pub blank-spaces : (bs : List ℕ) → contentOf bs ≡ Blank → bs ≡ replicate (length bs) space
+blank-spaces bs e = subst (Says bs) e (says bs)
+
+-- two numbers have two spellings
+pub spell-apart : (y z : ℤ) → spell y ≡ spell z → y ≡ z
+spell-apart y z e =
+    let q : Number y ≡ Number z = sym (spell-reads y) ∙ ap contentOf e ∙ spell-reads z in
+    cc
+
+-- all of seven bytes say it
+pub read-as : (bs : List ℕ) → length bs ≡ width → ReadAs bs (contentOf bs)
+read-as bs l =
+    record {
+      blank = (λ e. blank-spaces bs e ∙ ap (λ k. replicate k space) l, λ q. ap contentOf q ∙ spaces-blank width);
+      number = λ z. (one-spelling bs z l, λ h. ap contentOf (h .0) ∙ spell-reads z);
+      bad = (
+        λ e. (
+          λ q. let b = spaces-blank width in let o : _≡_ {A = ℕ} 0 1 = cc (ap contentOf q) in omega arith,
+          λ z h. let b = spell-reads z in let o : _≡_ {A = ℕ} 0 1 = cc (ap contentOf (h .0)) in omega arith,
+        ),
+        λ n. go (contentOf bs) refl (n .0) (n .1),
+      );
+    }
+  where
+    go : (c : Content) → contentOf bs ≡ c → (bs ≡ replicate width space → ⊥) → ((z : ℤ) → IsSpelling bs z → ⊥) → contentOf bs ≡ Bad
+    go Blank e b s = absurd (b (blank-spaces bs e ∙ ap (λ k. replicate k space) l))
+    go (Number z) e b s = absurd (s z (one-spelling bs z l e))
+    go Bad e b s = e
+
+-- the numbers that a field can spell
+pub spellable-range : (z : ℤ) → Spellable z ↔ ((negℤ (pos 999999) ≤ℤ z) × (z ≤ℤ pos 9999999))
+spellable-range (pos n) =
+    (λ h. (record { le = tt }, record { le = le→leb n 9999999 (omega arith) }), λ r. omega (arith, leb→le n 9999999 (r .1 .le)))
+spellable-range (negsuc n) =
+    (λ h. (record { le = le→leb n 999998 (omega arith) }, record { le = tt }), λ r. omega (arith, leb→le n 999998 (r .0 .le)))

@@ -1,0 +1,170 @@
+// The rounds of a place, and what is true throughout them: a sum that grows by the same with each round, against a bound.
+ghost use mathlib.Core.Path.{_≡_};
+ghost use Prim.Native.Nat.{_+_, _-_, _*_, _<_, _^_};
+ghost use Rattle.laws.specs.Sizes.{size};
+ghost use Rattle.meaning.specs.Run.{stretch};
+ghost use Rattle.verdict.specs.declared.Rounds.the-variants as rounds;
+ghost use Rattle.verdict.specs.Rounds.{roundsOf, later, flag, agree, through};
+ghost use Rattle.verdict.specs.Forward.{repeats};
+ghost use Rattle.verdict.specs.Verdict.{isAlways, isNever};
+ghost use Rattle.rounds.specs.Last.{lastOf};
+use items::LoopMark;
+use verdict::Rounds;
+use verdict::Throughout;
+
+// The number of places of a stretch.
+pub fn stretch(m: LoopMark) -> usize
+    ensures { λ r. ⌜ r ≡ stretch m ⌝ }
+{
+    match m {
+        LoopMark::None => 1,
+        LoopMark::Counted {
+            length,
+            rounds: _,
+            back: _,
+        } => length as usize,
+        LoopMark::Endless { length, back: _ } => length as usize,
+    }
+}
+
+// One less, and 0 for 0.
+fn one_less(n: u32) -> u32
+    ensures { λ r. ⌜ r ≡ n - 1 ⌝ }
+{
+    if n == 0 {
+        return 0;
+    }
+    n - 1
+}
+
+// The rounds of a stretch.
+pub fn rounds_of(m: LoopMark) -> Rounds
+    ensures { λ r. ⌜ r ≡ roundsOf m ⌝ }
+{
+    match m {
+        LoopMark::None => Rounds::UpTo(0),
+        LoopMark::Counted {
+            length: _,
+            rounds,
+            back: _,
+        } => Rounds::UpTo(one_less(rounds)),
+        LoopMark::Endless { length: _, back: _ } => Rounds::Ever,
+    }
+}
+
+// How often a loop is gone through again before it is left.
+pub fn repeats(m: LoopMark) -> u32
+    ensures { λ r. ⌜ r ≡ repeats m ⌝ }
+{
+    match m {
+        LoopMark::None => 0,
+        LoopMark::Counted {
+            length: _,
+            rounds,
+            back: _,
+        } => one_less(rounds),
+        LoopMark::Endless { length: _, back: _ } => 0,
+    }
+}
+
+// All but the first of the rounds, counted from 0 again.
+pub fn later(r: Rounds) -> Rounds
+    ensures { λ s. ⌜ s ≡ later r ⌝ }
+{
+    match r {
+        Rounds::None => Rounds::None,
+        Rounds::UpTo(k) => {
+            if k == 0 {
+                return Rounds::None;
+            }
+            Rounds::UpTo(k - 1)
+        }
+        Rounds::Ever => Rounds::Ever,
+    }
+}
+
+// What doesn't look at the round.
+pub fn flag(t: bool) -> Throughout
+    ensures { λ r. ⌜ r ≡ flag t ⌝ }
+{
+    if t {
+        Throughout::Always
+    } else {
+        Throughout::Never
+    }
+}
+
+// What is the same in all rounds where it is the same in the first and in the last.
+pub fn agree(a: bool, b: bool) -> Throughout
+    ensures { λ r. ⌜ r ≡ agree a b ⌝ }
+{
+    if a {
+        if b {
+            Throughout::Always
+        } else {
+            Throughout::Changes
+        }
+    } else {
+        if b {
+            Throughout::Changes
+        } else {
+            Throughout::Never
+        }
+    }
+}
+
+// Whether it is true throughout.
+pub fn is_always(t: Throughout) -> bool
+    ensures { λ r. ⌜ r ≡ isAlways t ⌝ }
+{
+    match t {
+        Throughout::Always => true,
+        Throughout::Never => false,
+        Throughout::Changes => false,
+    }
+}
+
+// Whether it is false throughout.
+pub fn is_never(t: Throughout) -> bool
+    ensures { λ r. ⌜ r ≡ isNever t ⌝ }
+{
+    match t {
+        Throughout::Always => false,
+        Throughout::Never => true,
+        Throughout::Changes => false,
+    }
+}
+
+// A sum that is a at first and grows by d with each round, against a bound: without end, by where it goes.
+fn ever(a: i64, d: i64, b: i64) -> Throughout
+    ensures { λ r. ⌜ r ≡ through a d b rounds.Ever ⌝ }
+{
+    if b <= a {
+        if 0 <= d {
+            Throughout::Always
+        } else {
+            Throughout::Changes
+        }
+    } else {
+        if d <= 0 {
+            Throughout::Never
+        } else {
+            Throughout::Changes
+        }
+    }
+}
+
+// The same over any rounds, up to a last one by its ends.
+pub fn through(a: i64, d: i64, b: i64, r: Rounds) -> Throughout
+    requires { ⌜ size a + lastOf r * size d < 2 ^ 63 ⌝ }
+    ensures { λ t. ⌜ t ≡ through a d b r ⌝ }
+{
+    match r {
+        Rounds::None => Throughout::Always,
+        Rounds::UpTo(k) => {
+            let last = a + (k as i64) * d;
+            agree(b <= a, b <= last)
+        }
+        Rounds::Ever => ever(a, d, b),
+    }
+}

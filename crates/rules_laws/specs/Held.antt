@@ -1,0 +1,339 @@
+-- A case is its items: what one item more does to them, over the kind.
+-- Nothing above this speaks of the room that is left. Assumes nothing.
+use mathlib.Core.Path.{_≡_, refl, _∙_, sym, ap, ap₂, subst}
+use mathlib.Core.List.{List, [], _∷_, _++_}
+use mathlib.Core.Bool.{Bool, true, false, true≢false, cond, _&&_, _||_}
+use Prim.Native.Nat.{ℕ, suc, _+_, _-_, _<_}
+use native.Mathlib.Omega.{arith}
+use lib.Dec.{eqb, leb, ltb}
+use lib.ListN.{length, take, set, replicate, getD, length-append, length-replicate}
+use lib.Seq.{take-append-seam, set-at, append-snoc}
+use borrow.Author.Tests.{leb-false, eqb-true, eq-eqb}
+use Rattle.laws.specs.Tests.{cond-by, tells-not}
+use Rattle.record.specs.declared.Field.{Field}
+use Rattle.record.specs.declared.Record.{Record}
+use Rattle.record.specs.Layout.{fields, at, recordOf}
+use Rattle.kinds.specs.declared.Kind.{Kind}
+use Rattle.kinds.specs.declared.Kind.the-variants.{State, Guard, Move, Sentence, Place}
+use Rattle.kinds.specs.declared.Counts.{Counts}
+use Rattle.kinds.specs.Kinds.{countOf, countsBy, same, letterOf, rankOf}
+use Rattle.kinds.specs.Table.{shapeOf, natural, isNumber, isBlank}
+use Rattle.checks.specs.declared.Fault.{Fault}
+use Rattle.checks.specs.declared.Fault.the-variants as fault
+use Rattle.answers.specs.declared.Answer.{Answer}
+use Rattle.answers.specs.declared.Answer.the-variants.{Taken, Misspelled, Misfilled, OutOfRange, OutOfOrder, NoRoom, NotThere, Misplaced, WrongWayIn}
+use Rattle.checks.specs.declared.Head.{Head}
+use Rattle.checks.specs.declared.Head.the-variants.{Of, Refused}
+use Rattle.checks.specs.Faults.{faultAt, lowestFault}
+use Rattle.checks.specs.Input.{wrongForm, rangeAnswer, extraAnswer, missingAnswer, formAnswer, fieldsAnswer, headOf}
+use Rattle.items.specs.Items.{Item, itemOf}
+use Rattle.collector.specs.declared.Case.{Case}
+use Rattle.collector.specs.declared.Loops.{Loops}
+use Rattle.items.specs.Lists.{Items, listOf, itemsBy, countsOf, roomOf, noItem}
+use Rattle.collector.specs.Cases.{changed, added, arraysOf, filled, caseBy, caseOf, itemsOf, noLoops, loopsAfter, loopsFrom, derivedOf, derivedAfter, oneMore, with, emptyCase}
+use Rattle.answers.specs.Answers.{isTaken}
+use Rattle.collector.specs.Taking.{takenOf, takenBy, takenAs, recordAnswer, lastRank, orderAnswer, roomAnswer, thereAnswer, layoutAnswer, placeAnswer, markAnswer, wayAnswer, isClosed, isOpen, isLong}
+use Rattle.rules_laws.specs.Letters.{one-kind, by-head}
+use Rattle.rules.specs.Rules.{IsA}
+use Rattle.collector.specs.Sound.{Sound, Fit, There}
+use Rattle.rules_laws.specs.Loops.{loops-snoc}
+use Rattle.rules_laws.specs.Stages.{fault-none}
+use Rattle.rules_laws.specs.Tells.{tells-bad, tells-missing, tells-extra, tells-outside, tells-there}
+
+-- ---- kind by kind
+
+pub list-by : (f : (k : Kind) → List (Item k)) (k : Kind) → listOf k (itemsBy f) ≡ f k
+list-by f State = refl
+list-by f Guard = refl
+list-by f Move = refl
+list-by f Sentence = refl
+list-by f Place = refl
+
+pub count-by : (f : Kind → ℕ) (k : Kind) → countOf (countsBy f) k ≡ f k
+count-by f State = refl
+count-by f Guard = refl
+count-by f Move = refl
+count-by f Sentence = refl
+count-by f Place = refl
+
+-- items, and counts, that are the same kind by kind are the same
+pub items-same : {x y : Items} → ((k : Kind) → listOf k x ≡ listOf k y) → x ≡ y
+items-same f = λ i. itemsBy (λ k. f k i)
+
+counts-same : {n m : Counts} → ((k : Kind) → countOf n k ≡ countOf m k) → n ≡ m
+counts-same f = λ i. countsBy (λ k. f k i)
+
+-- what is true of kind k and of every other kind is true of all
+pub by-kind : (P : Kind → Type 0) (k : Kind) → P k → ((j : Kind) → same k j ≡ false → P j) → (j : Kind) → P j
+by-kind P k p f j =
+    cond-by (λ (z : ℕ). P j) (same k j) {x = 0} {y = 0} (λ e. subst P (one-kind (letterOf k) k j refl (eqb-true (letterOf k) (letterOf j) e)) p) (f j)
+
+-- where the items of kind k are changed, these are, and the others are not
+changed-same : (k : Kind) (f : List (Item k) → List (Item k)) (x : Items) → listOf k (changed k f x) ≡ f (listOf k x)
+changed-same State f x = refl
+changed-same Guard f x = refl
+changed-same Move f x = refl
+changed-same Sentence f x = refl
+changed-same Place f x = refl
+
+changed-other : (k : Kind) (f : List (Item k) → List (Item k)) (x : Items) (j : Kind) → same k j ≡ false → listOf j (changed k f x) ≡ listOf j x
+changed-other State f x = elim [ State ↦ λ e. absurd (true≢false e) | Guard ↦ λ e. refl | Move ↦ λ e. refl | Sentence ↦ λ e. refl | Place ↦ λ e. refl ]
+changed-other Guard f x = elim [ State ↦ λ e. refl | Guard ↦ λ e. absurd (true≢false e) | Move ↦ λ e. refl | Sentence ↦ λ e. refl | Place ↦ λ e. refl ]
+changed-other Move f x = elim [ State ↦ λ e. refl | Guard ↦ λ e. refl | Move ↦ λ e. absurd (true≢false e) | Sentence ↦ λ e. refl | Place ↦ λ e. refl ]
+changed-other Sentence f x = elim [ State ↦ λ e. refl | Guard ↦ λ e. refl | Move ↦ λ e. refl | Sentence ↦ λ e. absurd (true≢false e) | Place ↦ λ e. refl ]
+changed-other Place f x = elim [ State ↦ λ e. refl | Guard ↦ λ e. refl | Move ↦ λ e. refl | Sentence ↦ λ e. refl | Place ↦ λ e. absurd (true≢false e) ]
+
+module _ (n : Counts) (k : Kind) where
+  abbrev more : Kind → ℕ
+  more j = cond (same k j) (countOf n j + 1) (countOf n j)
+
+  pub count-more : countOf (oneMore n k) k ≡ countOf n k + 1
+  count-more = count-by more k ∙ ap (λ t. cond t (countOf n k + 1) (countOf n k)) (eq-eqb (letterOf k) (letterOf k) refl)
+
+  pub count-other : (j : Kind) → same k j ≡ false → countOf (oneMore n k) j ≡ countOf n j
+  count-other j e = count-by more j ∙ ap (λ t. cond t (countOf n j + 1) (countOf n j)) e
+
+-- ---- the case that holds given items
+
+pub counted-of : (x : Items) (k : Kind) → countOf (countsOf x) k ≡ length (listOf k x)
+counted-of x = count-by (λ k. length (listOf k x))
+
+pub items-of : (x : Items) → itemsOf (caseOf x) ≡ x
+items-of x =
+    items-same (λ k.
+    list-by (λ j. take (countOf (countsOf x) j) (listOf j (itemsBy (filled x)))) k
+    ∙ ap₂ (λ n l. take n l) (counted-of x k) (list-by (filled x) k)
+    ∙ take-append-seam (listOf k x) (replicate (roomOf k - length (listOf k x)) (noItem k)))
+
+-- storing an item after those that are held
+set-filled : {A : Type 0} (l : List A) (r : ℕ) (d y : A) → length l < r →
+    set (l ++ replicate (r - length l) d) (length l) y ≡ (l ++ (y ∷ [])) ++ replicate (r - length (l ++ (y ∷ []))) d
+set-filled l r d y h =
+    let m : ℕ = r - (length l + 1) in
+    let e : r - length l ≡ suc m = omega arith in
+    let g : r - length (l ++ (y ∷ [])) ≡ m = omega (arith, length-append l (y ∷ [])) in
+    ap (λ k. set (l ++ replicate k d) (length l) y) e
+    ∙ set-at l d (replicate m d) y (length l) refl
+    ∙ sym (ap (λ k. (l ++ (y ∷ [])) ++ replicate k d) g ∙ append-snoc l y (replicate m d))
+
+derived-added : (x : Items) (k : Kind) (y : Item k) → derivedAfter (derivedOf x) (countsOf x) k y ≡ derivedOf (added x k y)
+derived-added x State y = refl
+derived-added x Guard y = refl
+derived-added x Move y = refl
+derived-added x Sentence y = refl
+derived-added x Place y =
+    let z : length (x .places) ≡ 0 + length (x .places) = omega arith in
+    let e : loopsAfter (loopsFrom noLoops 0 (x .places)) (length (x .places)) (y .mark) ≡ loopsFrom noLoops 0 (x .places ++ (y ∷ [])) =
+    ap (λ n. loopsAfter (loopsFrom noLoops 0 (x .places)) n (y .mark)) z ∙ sym (loops-snoc noLoops 0 (x .places) y) in
+    λ i. record { loops = e i }
+
+module _ (x : Items) (k : Kind) (y : Item k) where
+  pub added-same : listOf k (added x k y) ≡ listOf k x ++ (y ∷ [])
+  added-same = changed-same k (λ l. l ++ (y ∷ [])) x
+
+  pub added-other : (j : Kind) → same k j ≡ false → listOf j (added x k y) ≡ listOf j x
+  added-other = changed-other k (λ l. l ++ (y ∷ [])) x
+
+  counts-added : oneMore (countsOf x) k ≡ countsOf (added x k y)
+  counts-added =
+      counts-same (by-kind (λ j. countOf (oneMore (countsOf x) k) j ≡ countOf (countsOf (added x k y)) j) k
+      (count-more (countsOf x) k
+      ∙ ap (λ n. n + 1) (counted-of x k)
+      ∙ sym (counted-of (added x k y) k ∙ ap length added-same ∙ length-append (listOf k x) (y ∷ [])))
+      (λ j e. count-other (countsOf x) k j e ∙ counted-of x j ∙ sym (counted-of (added x k y) j ∙ ap length (added-other j e))))
+
+  arrays-added : length (listOf k x) < roomOf k →
+      changed k (λ xs. set xs (countOf (countsOf x) k) y) (itemsBy (filled x)) ≡ itemsBy (filled (added x k y))
+  arrays-added h =
+      let f : List (Item k) → List (Item k) = λ xs. set xs (countOf (countsOf x) k) y in
+      items-same (by-kind (λ j. listOf j (changed k f (itemsBy (filled x))) ≡ listOf j (itemsBy (filled (added x k y)))) k
+      (changed-same k f (itemsBy (filled x))
+      ∙ ap₂ (λ n l. set l n y) (counted-of x k) (list-by (filled x) k)
+      ∙ set-filled (listOf k x) (roomOf k) (noItem k) y h
+      ∙ sym (list-by (filled (added x k y)) k ∙ ap (λ l. l ++ replicate (roomOf k - length l) (noItem k)) added-same))
+      (λ j e.
+      changed-other k f (itemsBy (filled x)) j e
+      ∙ list-by (filled x) j
+      ∙ sym (list-by (filled (added x k y)) j ∙ ap (λ l. l ++ replicate (roomOf j - length l) (noItem j)) (added-other j e))))
+
+  with-is : length (listOf k x) < roomOf k → with (caseOf x) k y ≡ caseOf (added x k y)
+  with-is h = λ i. caseBy (counts-added i) (derived-added x k y i) (arrays-added h i)
+
+-- ---- a case that is its items
+
+abbrev pub Kept : Case → Type 0
+Kept c = c ≡ caseOf (itemsOf c)
+
+pub sound-is-kept : {c : Case} → Sound c → Kept c
+sound-is-kept s = s .same
+
+module _ (c : Case) (s : Kept c) where
+  pub kept-counts : c .count ≡ countsOf (itemsOf c)
+  kept-counts = ap (λ (d : Case). d .count) s
+
+  pub kept-counted : (k : Kind) → length (listOf k (itemsOf c)) ≡ countOf (c .count) k
+  kept-counted k = sym (ap (λ n. countOf n k) kept-counts ∙ counted-of (itemsOf c) k)
+
+pub counted : (c : Case) → Sound c → (k : Kind) → length (listOf k (itemsOf c)) ≡ countOf (c .count) k
+counted c s = kept-counted c (s .same)
+
+pub counts-are : (c : Case) → Sound c → c .count ≡ countsOf (itemsOf c)
+counts-are c s = kept-counts c (s .same)
+
+module _ {c : Case} (s : Sound c) where
+  -- what is kept beside the items follows from them
+  pub derived : c .derived ≡ derivedOf (itemsOf c)
+  derived = ap (λ (d : Case). d .derived) (s .same)
+
+  -- each array is the items, and empty ones up to the room
+  pub padded : (k : Kind) → listOf k (arraysOf c) ≡ filled (itemsOf c) k
+  padded k = ap (λ (d : Case). listOf k (arraysOf d)) (s .same) ∙ list-by (filled (itemsOf c)) k
+
+  pub long : (k : Kind) → length (listOf k (arraysOf c)) ≡ roomOf k
+  long k =
+      let l = listOf k (itemsOf c) in
+      ap length (padded k)
+      ∙ omega (arith, length-append l (replicate (roomOf k - length l) (noItem k)), length-replicate (roomOf k - length l) (noItem k), counted c s k, s .room k)
+
+-- ---- a case with one item more
+
+module _ (c : Case) (k : Kind) (x : Item k) (s : Kept c) (h : countOf (c .count) k < roomOf k) where
+  with-added : with c k x ≡ caseOf (added (itemsOf c) k x)
+  with-added = ap (λ (d : Case). with d k x) s ∙ with-is (itemsOf c) k x (omega (arith, kept-counted c s k))
+
+  pub items-with : itemsOf (with c k x) ≡ added (itemsOf c) k x
+  items-with = ap itemsOf with-added ∙ items-of (added (itemsOf c) k x)
+
+  pub kept-with : Kept (with c k x)
+  kept-with = with-added ∙ ap caseOf (sym items-with)
+
+  pub same-kind : listOf k (itemsOf (with c k x)) ≡ listOf k (itemsOf c) ++ (x ∷ [])
+  same-kind = ap (listOf k) items-with ∙ added-same (itemsOf c) k x
+
+  pub other-list : (j : Kind) → same k j ≡ false → listOf j (itemsOf (with c k x)) ≡ listOf j (itemsOf c)
+  other-list j e = ap (listOf j) items-with ∙ added-other (itemsOf c) k x j e
+
+  pub other-kind : (j : Kind) → (j ≡ k → ⊥) → listOf j (itemsOf (with c k x)) ≡ listOf j (itemsOf c)
+  other-kind =
+      by-kind (λ j. (j ≡ k → ⊥) → listOf j (itemsOf (with c k x)) ≡ listOf j (itemsOf c)) k (λ d. absurd (d refl)) (λ j e d. other-list j e)
+
+-- ---- the empty case
+
+pub empty-kept : Kept emptyCase
+unfolding emptyCase
+empty-kept = ap caseOf (sym (items-of (itemsBy (λ k. []))))
+
+pub empty-list : (k : Kind) → listOf k (itemsOf emptyCase) ≡ []
+unfolding emptyCase
+empty-list k = ap (listOf k) (items-of (itemsBy (λ k. []))) ∙ list-by (λ k. []) k
+
+-- ---- a record that is refused
+
+-- it leaves the whole case as it was
+same-by : (c : Case) (bs : List ℕ) (h : Head) → isTaken (takenBy c h bs .answer) ≡ false → takenBy c h bs .case ≡ c
+unfolding takenAs
+same-by c bs (Of k) e = ap (λ t. cond t (with c k (itemOf k (recordOf bs .fields))) c) e
+same-by c bs (Refused a) e = refl
+
+pub refused-same : (c : Case) (bs : List ℕ) → isTaken (takenOf c bs .answer) ≡ false → takenOf c bs .case ≡ c
+unfolding takenOf
+refused-same c bs e = same-by c bs (headOf bs) e
+
+-- ---- a record that is taken
+
+-- a place may come as place n, where these loops are held
+pub record Placed (l : Loops) (n : ℕ) (r : List Field) : Type 0 where
+  pub before : isClosed l n ≡ false
+  pub mark : (isNumber (at r 4) && (isOpen l n || isLong n (natural (at r 4)))) ≡ false
+  pub way : cond (eqb n 0) (isNumber (at r 2)) (isBlank (at r 2)) ≡ false
+
+-- a record of kind k may come where so many items and these loops are held
+pub record Next (n : Counts) (l : Loops) (k : Kind) (r : Record) : Type 0 where
+  pub room : countOf n k < roomOf k
+  pub there : There n k (r .fields)
+  pub place : k ≡ Place → Placed l (n .places) (r .fields)
+
+-- what follows from a record's being taken: its kind, its own fields, what is held, and the case after it
+pub record IsTaken (c : Case) (bs : List ℕ) : Type 0 where
+  pub kind : Kind
+  pub letter : getD bs 0 0 ≡ letterOf kind
+  pub fit : Fit kind (recordOf bs .fields)
+  pub next : Next (c .count) (c .derived .loops) kind (recordOf bs)
+  pub case : takenOf c bs .case ≡ with c kind (itemOf kind (recordOf bs .fields))
+
+-- a stage with one test and a refusal
+passed : (t : Bool) (a b : Answer) → isTaken a ≡ false → isTaken (cond t a b) ≡ true → (t ≡ false) × (isTaken b ≡ true)
+passed true a b r e = absurd (true≢false (sym e ∙ r))
+passed false a b r e = (refl, e)
+
+fit-is : (k : Kind) (bs : List ℕ) → isTaken (fieldsAnswer (shapeOf k (recordOf bs)) (recordOf bs)) ≡ true → Fit k (recordOf bs .fields)
+unfolding fieldsAnswer formAnswer missingAnswer extraAnswer rangeAnswer
+fit-is k bs e =
+    let r = recordOf bs in
+    let s = shapeOf k r in
+    let low : Fault → ℕ = λ f. lowestFault f s r in
+    let none : (f : Fault) → leb (low f) fields ≡ false → (g : ℕ) → faultAt f s r g ≡ false = λ f h. fault-none f s bs (leb-false (low f) fields h) in
+    let p0 = passed (leb (low fault.Misspelled) fields) (Misspelled (low fault.Misspelled)) (formAnswer s r) refl e in
+    let p1 = passed (wrongForm s r) (OutOfRange 1) (missingAnswer s r) refl (p0 .1) in
+    let p2 = passed (leb (low fault.Missing) fields) (Misfilled (low fault.Missing)) (extraAnswer s r) refl (p1 .1) in
+    let p3 = passed (leb (low fault.Extra) fields) (Misfilled (low fault.Extra)) (rangeAnswer s r) refl (p2 .1) in
+    let p4 = passed (leb (low fault.OutOfRange) fields) (OutOfRange (low fault.OutOfRange)) Taken refl (p3 .1) in
+    record {
+      spelled = λ g. tells-not _ (tells-bad (r .fields) g) (none fault.Misspelled (p0 .0) g);
+      full = λ g. tells-not _ (tells-missing k (r .fields) g) (none fault.Missing (p2 .0) g);
+      bare = λ g. tells-not _ (tells-extra k (r .fields) g) (none fault.Extra (p3 .0) g);
+      ranged = λ g. tells-not _ (tells-outside k (r .fields) g) (none fault.OutOfRange (p4 .0) g);
+    }
+
+place-is : (l : Loops) (n : ℕ) (r : List Field) → isTaken (placeAnswer l n r) ≡ true → Placed l n r
+unfolding placeAnswer markAnswer wayAnswer
+place-is l n r e =
+    let p0 = passed (isClosed l n) (Misplaced 0) (markAnswer l n r) refl e in
+    let p1 = passed (isNumber (at r 4) && (isOpen l n || isLong n (natural (at r 4)))) (Misplaced 4) (wayAnswer n r) refl (p0 .1) in
+    let p2 = passed (cond (eqb n 0) (isNumber (at r 2)) (isBlank (at r 2))) WrongWayIn Taken refl (p1 .1) in
+    record { before = p0 .0; mark = p1 .0; way = p2 .0 }
+
+next-is : (n : Counts) (l : Loops) (k : Kind) (bs : List ℕ) → isTaken (orderAnswer n l (shapeOf k (recordOf bs)) (recordOf bs)) ≡ true → Next n l k (recordOf bs)
+unfolding orderAnswer roomAnswer thereAnswer shapeOf
+next-is n l k bs e =
+    let r = recordOf bs in
+    let s = shapeOf k r in
+    let m : ℕ = lowestFault (fault.NotThere n) s r in
+    let p0 = passed (ltb (rankOf k) (lastRank n)) OutOfOrder (roomAnswer n l s r) refl e in
+    let p1 = passed (leb (roomOf k) (countOf n k)) NoRoom (thereAnswer n l s r) refl (p0 .1) in
+    let p2 = passed (leb m fields) (NotThere m) (layoutAnswer k n l (r .fields)) refl (p1 .1) in
+    record {
+      room = leb-false (roomOf k) (countOf n k) (p1 .0);
+      there = λ g. tells-not _ (tells-there k (r .fields) g n) (fault-none (fault.NotThere n) s bs (leb-false m fields (p2 .0)) g);
+      place = λ i. place-is l (n .places) (r .fields) (subst (λ j. isTaken (layoutAnswer j n l (r .fields)) ≡ true) i (p2 .1));
+    }
+
+-- a taken record passes its own tests and those of the state
+both-take : (a b : Answer) → isTaken (cond (isTaken a) b a) ≡ true → (isTaken a ≡ true) × (isTaken b ≡ true)
+both-take a b =
+    cond-by (λ (q : Answer). isTaken q ≡ true → (isTaken a ≡ true) × (isTaken b ≡ true)) (isTaken a) {x = b} {y = a}
+    (λ e h. (e, h)) (λ e h. absurd (true≢false (sym h ∙ e)))
+
+module _ (c : Case) (bs : List ℕ) where
+  -- a head that is refused is not taken, and another has its kind's letter
+  abbrev Headed : Head → Type 0
+  Headed (Of k) = IsA k bs
+  Headed (Refused a) = isTaken a ≡ false
+
+  taken-by : (h : Head) → Headed h → headOf bs ≡ h → isTaken (takenBy c h bs .answer) ≡ true → IsTaken c bs
+  unfolding takenOf takenAs recordAnswer
+  taken-by (Refused a) r e t = absurd (true≢false (sym t ∙ r))
+  taken-by (Of k) r e t =
+      let s = shapeOf k (recordOf bs) in
+      let b = both-take (fieldsAnswer s (recordOf bs)) (orderAnswer (c .count) (c .derived .loops) s (recordOf bs)) t in
+      record {
+        kind = k;
+        letter = r;
+        fit = fit-is k bs (b .0);
+        next = next-is (c .count) (c .derived .loops) k bs (b .1);
+        case = ap (λ h. takenBy c h bs .case) e ∙ ap (λ q. cond q (with c k (itemOf k (recordOf bs .fields))) c) t;
+      }
+
+  pub taken-with : isTaken (takenOf c bs .answer) ≡ true → IsTaken c bs
+  unfolding takenOf
+  taken-with = taken-by (headOf bs) (by-head bs Headed (λ e. refl) (λ w e. refl) (λ w d e. refl) (λ w d k is. is)) refl

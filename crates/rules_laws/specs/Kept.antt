@@ -1,0 +1,259 @@
+-- Every case that is made by taking records is sound: the empty one is, and taking a record keeps it so. Assumes nothing.
+use mathlib.Core.Path.{_≡_, refl, _∙_, sym, ap, subst, subst₂}
+use mathlib.Core.Logic.{_↔_, inl, inr, ⊎-elim}
+use mathlib.Core.List.{List, [], _∷_, _++_}
+use mathlib.Core.Bool.{Bool, true, false, cond, _&&_, _||_, true≢false}
+use Prim.Native.Nat.{ℕ, zero, suc, _+_, _^_, _≤_, _<_}
+use native.Mathlib.Nat.{le-refl, pow-le-pow-right}
+use native.Mathlib.Omega.{arith}
+use native.Mathlib.Decide.{decLt}
+use borrow.Author.Tests.{ltb-false}
+use lib.Dec.{ltb, eqb, eqb·suc-zero}
+use lib.IntN.{pos}
+use lib.ListN.{length, getD, List·getD-append}
+use lib.Seq.{getD-at}
+use Rattle.laws.specs.Tests.{neither}
+use Rattle.record.specs.declared.Content.{Content}
+use Rattle.record.specs.declared.Content.the-variants as content
+use Rattle.record.specs.declared.Field.{Field}
+use Rattle.record.specs.Layout.{at, recordOf}
+use Rattle.kinds.specs.declared.Kind.{Kind}
+use Rattle.kinds.specs.declared.Kind.the-variants as kind
+use Rattle.kinds.specs.declared.Counts.{Counts}
+use Rattle.kinds.specs.declared.Sort.the-variants as sort
+use Rattle.kinds.specs.declared.Rule.the-variants as rule
+use Rattle.kinds.specs.Kinds.{countOf}
+use Rattle.kinds.specs.Table.{natural, isNumber, isBlank, neededIf, inFilled, ruleAt, shapeOf}
+use Rattle.checks.specs.Faults.{outside}
+use Rattle.items.specs.declared.Ref.{Ref}
+use Rattle.items.specs.declared.Ref.the-variants as ref
+use Rattle.items.specs.declared.LoopMark.{LoopMark}
+use Rattle.items.specs.declared.LoopMark.the-variants as mark
+use Rattle.items.specs.declared.Place.{Place}
+use Rattle.items.specs.Items.{Item, itemOf, rowOf, reference}
+use Rattle.collector.specs.declared.Loops.{Loops}
+use Rattle.collector.specs.declared.Derived.{Derived}
+use Rattle.collector.specs.declared.Case.{Case}
+use Rattle.items.specs.Lists.{roomOf, noItem, listOf}
+use Rattle.collector.specs.Cases.{itemsOf, oneMore, with, noLoops, loopsFrom, emptyCase}
+use Rattle.collector.specs.Taking.{isClosed, isOpen, isLong, takenOf}
+use Rattle.answers.specs.Answers.{isTaken}
+use Rattle.collector.specs.Sound.{Sound, Fit, There, reach, shape, LoopsApart}
+use Rattle.rules_laws.specs.Fields.{met, fields-again}
+use Rattle.rules_laws.specs.Held.{by-kind, count-more, count-other, counted, kept-counted, derived, same-kind, other-list, kept-with, empty-kept, empty-list, refused-same, Placed, IsTaken, taken-with}
+use Rattle.rules_laws.specs.Loops.{MarkFits, apart-snoc}
+
+-- ---- what is there stays there
+
+-- m has at least as many of each kind
+abbrev AtMost : Counts → Counts → Type 0
+AtMost n m = (k : Kind) → countOf n k ≤ countOf m k
+
+-- with one item more; what an item reaches grows with what is held, and the new item reaches all that was held
+more : (n : Counts) (k : Kind) → AtMost n (oneMore n k)
+more n k =
+    by-kind (λ j. countOf n j ≤ countOf (oneMore n k) j) k (omega (arith, count-more n k)) (λ j e. omega (arith, count-other n k j e))
+
+reaches : {n m : Counts} → AtMost n m → (k : Kind) (i : ℕ) → AtMost (reach n k i) (reach m k i)
+reaches a kind.State i = a
+reaches a kind.Guard i = a
+reaches a kind.Move i = a
+reaches a kind.Sentence i =
+    elim [ kind.State ↦ a kind.State | kind.Guard ↦ a kind.Guard | kind.Move ↦ a kind.Move | kind.Sentence ↦ le-refl i | kind.Place ↦ a kind.Place ]
+reaches a kind.Place i = a
+
+reaches-held : (n : Counts) (k : Kind) → AtMost n (reach (oneMore n k) k (countOf n k))
+reaches-held n kind.State = more n kind.State
+reaches-held n kind.Guard = more n kind.Guard
+reaches-held n kind.Move = more n kind.Move
+reaches-held n kind.Sentence =
+    elim [ kind.State ↦ le-refl _ | kind.Guard ↦ le-refl _ | kind.Move ↦ le-refl _ | kind.Sentence ↦ le-refl _ | kind.Place ↦ le-refl _ ]
+reaches-held n kind.Place = more n kind.Place
+
+there-more : {n m : Counts} → AtMost n m → (k : Kind) (r : List Field) → There n k r → There m k r
+there-more {n} {m} a k r t f (z, d, h) =
+    t f (
+      z,
+      d,
+      ⊎-elim
+          (λ (j, u, l). let le : countOf n j ≤ z = omega (arith, a j) in inl (j, u, le))
+          (λ (u, l). let le : 2 ^ n .sentences ≤ z = omega (arith, pow-le-pow-right {n = 2} (omega arith) (a kind.Sentence)) in inr (u, le))
+          h,
+    )
+
+-- ---- the fields of a place
+
+-- the length of a mark as a field
+abbrev lengthField : LoopMark → Content
+lengthField mark.None = content.Blank
+lengthField (mark.Counted l n b) = content.Number (pos l)
+lengthField (mark.Endless l b) = content.Number (pos l)
+
+field-four : (s : ℕ) (w : Ref) (k : ℕ) (m : LoopMark) →
+    at (rowOf kind.Place (record { state = s; way = w; marks = k; mark = m })) 4 ≡ lengthField m
+unfolding rowOf
+field-four s w k mark.None = refl
+field-four s w k (mark.Counted l n b) = refl
+field-four s w k (mark.Endless l b) = refl
+
+field-two : (p : Place) → at (rowOf kind.Place p) 2 ≡ reference (p .way) .content
+unfolding rowOf
+field-two p = refl
+
+-- the tests of its way in, where n places are held
+way-at : (n : ℕ) (w : Ref) →
+    cond (eqb n 0) (isNumber (reference w .content)) (isBlank (reference w .content)) ≡ false → (n ≡ 0) ↔ (w ≡ ref.None)
+way-at zero ref.None e = (λ z. refl, λ z. refl)
+way-at zero (ref.At a) e = absurd (true≢false e)
+way-at (suc n) ref.None e = absurd (true≢false (rw (eqb·suc-zero n) at e))
+way-at (suc n) (ref.At a) e = (λ z. absurd (omega arith), λ z. let o : _≡_ {A = ℕ} 0 1 = cc in absurd (omega arith))
+
+-- a length is not 0
+in-range : (b : Bool) (l : ℕ) → outside (neededIf b sort.LoopLength) (content.Number (pos l)) ≡ false → 0 < l
+in-range true l e = ltb-false l 1 (neither (ltb l 1) (ltb 64 l) e .0)
+in-range false l e = ltb-false l 1 (neither (ltb l 1) (ltb 64 l) e .0)
+
+long-enough : (r : List Field) → Fit kind.Place r → (l : ℕ) → at r 4 ≡ content.Number (pos l) → 0 < l
+unfolding ruleAt shapeOf
+long-enough r f l e =
+    let x = inFilled (shape kind.Place r .filled) in
+    in-range (x 5 || x 6) l (subst (λ c. outside (ruleAt (shape kind.Place r) 4) c ≡ false) e (met f 4 .ranged))
+
+-- the tests of its mark, where n places are held
+mark-fits : (l : Loops) (n : ℕ) (m : LoopMark) → n < roomOf kind.Place → isClosed l n ≡ false →
+    (isNumber (lengthField m) && (isOpen l n || isLong n (natural (lengthField m)))) ≡ false →
+    ((z : ℕ) → lengthField m ≡ content.Number (pos z) → 0 < z) → MarkFits l n m
+mark-fits l n mark.None h g e w =
+    record { going = g; apart = λ x. absurd (x refl); within = omega arith; whole = λ x. absurd (true≢false (sym x)) }
+mark-fits l n (mark.Counted z r b) h g e w =
+    let t = neither (isOpen l n) (isLong n z) e in
+    record { going = g; apart = λ x. t .0; within = ltb-false (roomOf kind.Place) (n + z) (t .1); whole = λ x. absurd (true≢false (sym x)) }
+mark-fits l n (mark.Endless z b) h g e w =
+    let t = neither (isOpen l n) (isLong n z) e in
+    record { going = g; apart = λ x. t .0; within = ltb-false (roomOf kind.Place) (n + z) (t .1); whole = λ x. w z refl }
+
+-- ---- one item more
+
+-- what is true of every element and of one more
+all-snoc : {A : Type 0} (P : ℕ → A → Type 0) (l : List A) (x d : A) (n : ℕ) → length l ≡ n →
+    ((i : ℕ) → i < n → P i (getD l i d)) → P n x → (i : ℕ) → i < n + 1 → P i (getD (l ++ (x ∷ [])) i d)
+all-snoc P l x d n e old new i h =
+    elim (decLt i n) [
+      | yes b ↦ subst (P i) (sym (List·getD-append l (x ∷ []) d i (omega arith))) (old i b)
+      | no b ↦
+          let q : n ≡ i = omega arith in
+          subst (λ j. P j (getD (l ++ (x ∷ [])) j d)) q (subst (P n) (sym (getD-at l x [] d n e)) new)
+    ]
+
+-- the item x of kind k may come next
+record Fits (c : Case) (k : Kind) (x : Item k) : Type 0 where
+  room : countOf (c .count) k < roomOf k
+  fit : Fit k (rowOf k x)
+  there : There (c .count) k (rowOf k x)
+  read : itemOf k (rowOf k x) ≡ x
+  place : k ≡ kind.Place → Placed (c .derived .loops) (c .count .places) (rowOf k x)
+
+-- what a sound case has of its n places ps
+record Places (n : ℕ) (ps : List Place) : Type 0 where
+  ways : (i : ℕ) → i < n → (i ≡ 0) ↔ (getD ps i (noItem kind.Place) .way ≡ ref.None)
+  loops : LoopsApart ps
+
+one-place : (n : ℕ) (ps : List Place) (p : Place) → length ps ≡ n → n < roomOf kind.Place → Places n ps →
+    Fit kind.Place (rowOf kind.Place p) → Placed (loopsFrom noLoops 0 ps) n (rowOf kind.Place p) → Places (n + 1) (ps ++ (p ∷ []))
+one-place n ps p e h s f t =
+    let l = loopsFrom noLoops 0 ps in
+    let q : at (rowOf kind.Place p) 4 ≡ lengthField (p .mark) = field-four (p .state) (p .way) (p .marks) (p .mark) in
+    let w : (n ≡ 0) ↔ (p .way ≡ ref.None) = way-at n (p .way) (rw (field-two p) at (t .way)) in
+    let m : MarkFits l n (p .mark) = mark-fits l n (p .mark) h (t .before) (rw q at (t .mark)) (λ j g. long-enough (rowOf kind.Place p) f j (q ∙ g)) in
+    record {
+      ways = all-snoc (λ i (q : Place). (i ≡ 0) ↔ (q .way ≡ ref.None)) ps p (noItem kind.Place) n e (s .ways) w;
+      loops = apart-snoc ps p (s .loops) (subst (λ j. MarkFits l j (p .mark)) (sym e) m) (omega arith);
+    }
+
+module _ (c : Case) (s : Sound c) where
+  places : Places (c .count .places) (itemsOf c .places)
+  places = record { ways = s .ways; loops = s .loops }
+
+  places-with : (k : Kind) (x : Item k) → Fits c k x → Places (with c k x .count .places) (itemsOf (with c k x) .places)
+  places-with kind.State x t = places
+  places-with kind.Guard x t = places
+  places-with kind.Move x t = places
+  places-with kind.Sentence x t = places
+  places-with kind.Place p t =
+      let n = c .count .places in
+      subst (Places (n + 1)) (sym (same-kind c kind.Place p (s .same) (t .room)))
+      (one-place n (itemsOf c .places) p (counted c s kind.Place) (t .room) places (t .fit)
+      (subst (λ (d : Derived). Placed (d .loops) n (rowOf kind.Place p)) (derived s) (t .place refl)))
+
+  module _ (k : Kind) (x : Item k) (t : Fits c k x) where
+    -- what is true of every item that is held, and of the next
+    all-with : (P : (j : Kind) → ℕ → Item j → Type 0) →
+        ((j : Kind) (i : ℕ) → i < countOf (c .count) j → P j i (getD (listOf j (itemsOf c)) i (noItem j))) →
+        P k (countOf (c .count) k) x →
+        (j : Kind) (i : ℕ) → i < countOf (with c k x .count) j → P j i (getD (listOf j (itemsOf (with c k x))) i (noItem j))
+    all-with P old new =
+        by-kind (λ j. (i : ℕ) → i < countOf (with c k x .count) j → P j i (getD (listOf j (itemsOf (with c k x))) i (noItem j))) k
+        (subst₂ (λ n l. (i : ℕ) → i < n → P k i (getD l i (noItem k))) (sym (count-more (c .count) k))
+        (sym (same-kind c k x (s .same) (t .room)))
+        (all-snoc (P k) (listOf k (itemsOf c)) x (noItem k) (countOf (c .count) k) (counted c s k) (old k) new))
+        (λ j o. subst₂ (λ n l. (i : ℕ) → i < n → P j i (getD l i (noItem j))) (sym (count-other (c .count) k j o))
+        (sym (other-list c k x (s .same) (t .room) j o)) (old j))
+
+    sound-with : Sound (with c k x)
+    sound-with =
+        let p = places-with k x t in
+        record {
+          same = kept-with c k x (s .same) (t .room);
+          room =
+              by-kind (λ j. countOf (with c k x .count) j ≤ roomOf j) k (omega (arith, count-more (c .count) k, t .room))
+              (λ j o. omega (arith, count-other (c .count) k j o, s .room j));
+          fit = all-with (λ j i y. Fit j (rowOf j y)) (s .fit) (t .fit);
+          there =
+              all-with (λ j i y. There (reach (with c k x .count) j i) j (rowOf j y))
+              (λ j i h. there-more (reaches (more (c .count) k) j i) j (rowOf j (getD (listOf j (itemsOf c)) i (noItem j))) (s .there j i h))
+              (there-more (reaches-held (c .count) k) k (rowOf k x) (t .there));
+          read = all-with (λ j i y. itemOf j (rowOf j y) ≡ y) (s .read) (t .read);
+          ways = p .ways;
+          loops = p .loops;
+        }
+
+-- ---- the empty case, and a record more
+
+pub sound-empty : Sound emptyCase
+unfolding emptyCase
+sound-empty =
+    record {
+      same = empty-kept;
+      room = λ k. omega (arith, none k);
+      fit = λ k i h. absurd (omega (arith, none k));
+      there = λ k i h. absurd (omega (arith, none k));
+      read = λ k i h. absurd (omega (arith, none k));
+      ways = λ i h. absurd (omega arith);
+      loops = record { apart = λ p q b h m. absurd (omega arith); within = λ p h. absurd (omega arith); last = λ p e. omega arith };
+    }
+  where
+    none : (k : Kind) → countOf (emptyCase .count) k ≡ 0
+    none k = sym (kept-counted emptyCase empty-kept k) ∙ ap length (empty-list k)
+
+taken-fits : (c : Case) (bs : List ℕ) (t : IsTaken c bs) → Fits c (t .kind) (itemOf (t .kind) (recordOf bs .fields))
+unfolding recordOf
+taken-fits c bs t =
+    let k = t .kind in
+    let r = recordOf bs .fields in
+    let e : r ≡ rowOf k (itemOf k r) = sym (fields-again k r refl (t .fit)) in
+    record {
+      room = t .next .room;
+      fit = subst (Fit k) e (t .fit);
+      there = subst (There (c .count) k) e (t .next .there);
+      read = ap (itemOf k) (sym e);
+      place = λ q. subst (Placed (c .derived .loops) (c .count .places)) e (t .next .place q);
+    }
+
+pub sound-kept : (c : Case) (bs : List ℕ) → Sound c → Sound (takenOf c bs .case)
+sound-kept c bs s = go (isTaken (takenOf c bs .answer)) refl
+  where
+    go : (b : Bool) → isTaken (takenOf c bs .answer) ≡ b → Sound (takenOf c bs .case)
+    go true e =
+        let t = taken-with c bs e in
+        subst Sound (sym (t .case)) (sound-with c s (t .kind) (itemOf (t .kind) (recordOf bs .fields)) (taken-fits c bs t))
+    go false e = subst Sound (sym (refused-same c bs e)) s

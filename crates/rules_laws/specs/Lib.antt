@@ -1,0 +1,10 @@
+pub mod Tells
+pub mod Letters
+pub mod Fields
+pub mod Held
+pub mod Loops
+pub mod Stages
+pub mod First
+pub mod Kept
+pub mod Spelled
+pub mod Theorems

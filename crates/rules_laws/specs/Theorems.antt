@@ -1,0 +1,102 @@
+-- What is proved of taking records: start here. The rules are in Rules.antt, the invariant in Sound.antt, the case that a file spells in
+-- Files.antt; how fields are spelled in the crate spelling; `takenOf` and `runOf`, with which the code's promises are equations, in the crate plan. Assumes nothing.
+use mathlib.Core.Path.{_≡_, refl, _∙_, ap}
+use mathlib.Core.Logic.{_⊎_}
+use mathlib.Core.List.{List, [], _∷_, _++_}
+use mathlib.Core.Bool.{true, false}
+use Prim.Native.Nat.{ℕ, _+_}
+use lib.IntN.{ℤ}
+use lib.ListN.{length}
+use Rattle.laws.specs.Tests.{cond-by}
+use Rattle.record.specs.declared.Content.the-variants.{Number}
+use Rattle.record.specs.Spelling.{contentOf}
+use Rattle.record.specs.Layout.{width, recordOf, cut}
+use Rattle.record_laws.specs.Spelled.{one-spelling, spellable-range}
+use Rattle.kinds.specs.declared.Kind.{Kind}
+use Rattle.kinds.specs.declared.Sort.the-variants.{Bound}
+use Rattle.answers.specs.declared.Answer.{Answer}
+use Rattle.items.specs.Items.{itemOf, rowOf}
+use Rattle.collector.specs.declared.Case.{Case}
+use Rattle.collector.specs.declared.Collected.{Collected}
+use Rattle.collector.specs.Cases.{emptyCase, caseOf, itemsOf}
+use Rattle.items.specs.Lists.{listOf}
+use Rattle.answers.specs.Answers.{isTaken}
+use Rattle.collector.specs.Taking.{takenOf, collectedFrom, collectedOf}
+use Rattle.rules.specs.Rules.{IsA, InRange, Applies, IsFirst}
+use Rattle.collector.specs.Sound.{Sound}
+use Rattle.rules_laws.specs.Fields.{fields-again}
+use Rattle.rules_laws.specs.Held.{same-kind, other-kind, refused-same, taken-with}
+use Rattle.rules_laws.specs.First.{answers-first, first-one}
+use Rattle.rules_laws.specs.Kept.{sound-empty, sound-kept}
+use Rattle.rules_laws.specs.Spelled.{Spells, spells-file}
+
+-- a record is taken where no refusal applies, and else gets the first that applies, of which there is one
+pub answers : (c : Case) (bs : List ℕ) → Sound c →
+    ((isTaken (takenOf c bs .answer) ≡ true) × ((a : Answer) → Applies (itemsOf c) bs a → ⊥)) ⊎ IsFirst (itemsOf c) bs (takenOf c bs .answer)
+answers = answers-first
+
+pub one-answer : (c : Case) (bs : List ℕ) (a b : Answer) → IsFirst (itemsOf c) bs a → IsFirst (itemsOf c) bs b → a ≡ b
+one-answer c = first-one (itemsOf c)
+
+-- a refused record leaves the case as it was, all of it
+pub refused : (c : Case) (bs : List ℕ) → isTaken (takenOf c bs .answer) ≡ false → takenOf c bs .case ≡ c
+refused = refused-same
+
+-- a taken record is the next item of its kind, field for field, and all else held stays
+pub record Next (c d : Case) (bs : List ℕ) : Type 0 where
+  pub kind : Kind
+  pub named : IsA kind bs
+  pub item : listOf kind (itemsOf d) ≡ listOf kind (itemsOf c) ++ (itemOf kind (recordOf bs .fields) ∷ [])
+  pub fields : rowOf kind (itemOf kind (recordOf bs .fields)) ≡ recordOf bs .fields
+  pub others : (j : Kind) → (j ≡ kind → ⊥) → listOf j (itemsOf d) ≡ listOf j (itemsOf c)
+
+pub taken : (c : Case) (bs : List ℕ) → Sound c → isTaken (takenOf c bs .answer) ≡ true → Next c (takenOf c bs .case) bs
+unfolding recordOf
+taken c bs s h =
+    let t = taken-with c bs h in
+    let k = t .kind in
+    let r = recordOf bs .fields in
+    let x = itemOf k r in
+    record {
+      kind = k;
+      named = t .letter;
+      item = ap (λ d. listOf k (itemsOf d)) (t .case) ∙ same-kind c k x (s .same) (t .next .room);
+      fields = fields-again k r refl (t .fit);
+      others = λ j n. ap (λ d. listOf j (itemsOf d)) (t .case) ∙ other-kind c k x (s .same) (t .next .room) j n;
+    }
+
+-- a case with the invariant is its items: what it keeps beside them follows from them
+pub case-is : (c : Case) → Sound c → c ≡ caseOf (itemsOf c)
+case-is c s = s .same
+
+-- the empty case is sound, and every record, taken or refused, keeps a case so: what `take` and `take_all` hand back may be gone on with, and judged
+pub empty-sound : Sound emptyCase
+empty-sound = sound-empty
+
+pub take-sound : (c : Case) (bs : List ℕ) → Sound c → Sound (takenOf c bs .case)
+take-sound = sound-kept
+
+sound-from : (rs : List (List ℕ)) (c : Case) (m : ℕ) → Sound c → Sound (collectedFrom c m rs .case)
+unfolding collectedFrom
+sound-from [] c m s = s
+sound-from (r ∷ rs) c m s =
+    let t = takenOf c r in
+    cond-by (λ (q : Collected). Sound (q .case)) (isTaken (t .answer)) {x = collectedFrom (t .case) (m + 1) rs} {y = record { case = t .case; answer = t .answer; taken = m }}
+    (λ e. sound-from rs (t .case) (m + 1) (take-sound c r s))
+    (λ e. take-sound c r s)
+
+pub run-sound : (c : Case) (bs : List ℕ) → Sound c → Sound (collectedOf c bs .case)
+unfolding collectedOf
+run-sound c bs s = sound-from (cut bs) c 0 s
+
+-- so every case that a file makes is sound
+pub sound : (bs : List ℕ) → Sound (collectedOf emptyCase bs .case)
+sound bs = run-sound emptyCase bs empty-sound
+
+-- a file all of whose records are taken gives the case that it spells
+pub spelled-case : (bs : List ℕ) → isTaken (collectedOf emptyCase bs .answer) ≡ true → Spells (cut bs) (collectedOf emptyCase bs)
+spelled-case = spells-file
+
+-- a bound may be any number that a field can spell: each that is read is in its range
+pub bounds : (bs : List ℕ) → length bs ≡ width → (z : ℤ) → contentOf bs ≡ Number z → InRange Bound z
+bounds bs l z e = spellable-range z .0 (one-spelling bs z l e .1)

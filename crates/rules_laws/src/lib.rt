@@ -1,0 +1,1 @@
+// Laws of taking records by the rules: no code. They stand in specs/; start at specs/Theorems.antt.

@@ -1,0 +1,98 @@
+-- The entries of the tables of judging: how they are read, how a loop fills them, and sums of them. Assumes nothing.
+use mathlib.Core.Path.{_≡_, sym, _∙_, ap, ap₂, subst}
+use mathlib.Core.List.{List, [], _∷_, _++_}
+use Prim.Native.Nat.{ℕ, zero, suc, _+_, _-_, _*_, _<_, _^_}
+use native.Mathlib.Numerals.{add-one}
+use native.Mathlib.Omega.{arith}
+use lib.IntN.{ℤ, _+ℤ_, _*ℤ_}
+use lib.ListN.{getD, set, replicate, List·getD-append}
+use lib.Seq.{set-at, append-snoc}
+use Rattle.laws.specs.Sizes.{size}
+use Rattle.laws.specs.Tab.{tab, length-tab, at-tab, Filled, fill-more}
+use Rattle.kinds.specs.declared.Kind.the-variants as kind
+use Rattle.kinds.specs.Table.{counters}
+use Rattle.items.specs.declared.Place.{Place}
+use Rattle.items.specs.Lists.{roomOf}
+use Rattle.verdict.specs.Rounds.{firstOf}
+use Rattle.counters.specs.declared.Counters.{Counters}
+use Rattle.counters.specs.Vectors.{valueAt, vec, vec-same, at-is}
+use Rattle.tables.specs.declared.Firsts.{Firsts}
+use Rattle.tables.specs.declared.Table.{Table}
+use Rattle.tables.specs.Tables.{vecOf, noValues, firstsOf, valuesOf, tableOf}
+
+module _ {A : Type 0} (g : ℕ → A) (n : ℕ) where
+  -- entry k
+  pub entry : (k : ℕ) (d : A) → k < n → getD (tab n 0 g) k d ≡ g k
+  entry k d h =
+      let e : 0 + k ≡ k = omega arith in
+      at-tab g n 0 k d h ∙ ap g e
+
+  -- one entry more
+  pub fill-next : (xs : List A) (k : ℕ) {v : A} → v ≡ g k → k < n → Filled g n xs k → Filled g n (set xs k v) (k + 1)
+  fill-next xs k e h f = subst (λ v. Filled g n (set xs k v) (k + 1)) (sym e) (fill-more g n xs k h f)
+
+  -- one entry more at the end
+  tab-last : (k i : ℕ) {j : ℕ} → j ≡ i + k → tab k i g ++ (g j ∷ []) ≡ tab (suc k) i g
+  tab-last zero i {j} e =
+      let s : j ≡ i = omega arith in
+      ap (λ m. g m ∷ []) s
+  tab-last (suc k) i e = ap (λ l. g i ∷ l) (tab-last k (i + 1) (omega arith))
+
+  -- the first k of n entries are those of g, and the others z: one entry of g more
+  front-next : (z : A) (k : ℕ) → k < n → set (tab k 0 g ++ replicate (n - k) z) k (g k) ≡ tab (k + 1) 0 g ++ replicate (n - (k + 1)) z
+  front-next z k h =
+      let e : n - k ≡ suc (n - (k + 1)) = omega arith in
+      let t : tab (k + 1) 0 g ≡ tab k 0 g ++ (g k ∷ []) = rw (add-one k) (sym (tab-last k 0 (omega arith))) in
+      let r : List A = replicate (n - (k + 1)) z in
+      rw (e, t) (set-at (tab k 0 g) z r (g k) k (length-tab g k 0) ∙ sym (append-snoc (tab k 0 g) (g k) r))
+
+-- ---- the tables
+
+pub first-at : {f : Firsts} (ps : List Place) → f ≡ firstsOf ps → (p : ℕ) → p < roomOf kind.Place → getD (f .at) p 0 ≡ firstOf ps p
+first-at ps e p h = ap (λ (f : Firsts). getD (f .at) p 0) e ∙ entry (firstOf ps) (roomOf kind.Place) p 0 h
+
+pub values-at : {t : Table} (n : ℕ) (f : ℕ → ℕ → ℤ) → t ≡ tableOf n f → (p : ℕ) (d : Counters) → p < n → getD (t .at) p d ≡ valuesOf f p
+values-at n f e p d h =
+    let v = valuesOf f in
+    ap (λ (t : Table). getD (t .at) p d) e
+    ∙ List·getD-append (tab n 0 v) (replicate (roomOf kind.Place - n) noValues) d p (omega (arith, length-tab v n 0))
+    ∙ entry v n p d h
+
+-- ---- a table that a loop fills
+
+-- xs has the values f j at the first p places, and 0 past them
+pub record Begun (f : ℕ → ℕ → ℤ) (xs : List Counters) (p : ℕ) : Type 0 where
+  pub so : xs ≡ tableOf p f .at
+
+pub begin : {f : ℕ → ℕ → ℤ} {v : Counters} → v .at ≡ noValues .at → Begun f (replicate (roomOf kind.Place) v) 0
+begin e = record { so = ap (λ (l : List ℤ). replicate (roomOf kind.Place) (record { at = l })) e }
+
+module _ {f : ℕ → ℕ → ℤ} {xs : List Counters} {p : ℕ} (b : Begun f xs p) where
+  pub go-on : {v : Counters} → v ≡ valuesOf f p → p < roomOf kind.Place → Begun f (set xs p v) (p + 1)
+  go-on e h =
+      record { so = ap₂ (λ (l : List Counters) (v : Counters). set l p v) (b .so) e ∙ front-next (valuesOf f) (roomOf kind.Place) noValues p h }
+
+  pub finish : {n : ℕ} → p ≡ n → _≡_ {A = Table} (record { at = xs }) (tableOf n f)
+  finish e = ap (λ (l : List Counters). record { at = l }) (b .so) ∙ ap (λ n. tableOf n f) e
+
+-- ---- a value for each counter
+
+-- v has the values f j
+pub record Has (v : Counters) (f : ℕ → ℤ) : Type 0 where
+  pub each : (j : ℕ) → j < counters → valueAt v j ≡ f j
+
+pub has : {v : Counters} (f : ℕ → ℤ) → v ≡ vecOf f → Has v f
+has {v} f e = record { each = at-is v f (ap (λ (u : Counters). u .at) e) }
+
+pub values-same : (f g : ℕ → ℤ) → ((j : ℕ) → j < counters → f j ≡ g j) → vecOf f ≡ vecOf g
+values-same f g h = ap (λ (l : List ℤ). record { at = l }) (vec-same f g h)
+
+-- n times b more, where m is n, and a has the values f j and b the values g j
+module _ (n : ℤ) {m : ℤ} (e : m ≡ n) {a b : Counters} {f g : ℕ → ℤ} (p : Has a f) (q : Has b g) where
+  pub sums-small : ((j : ℕ) → size (f j) + size n * size (g j) < 2 ^ 63) → (j : ℕ) → j < counters → size (valueAt a j) + size m * size (valueAt b j) < 2 ^ 63
+  sums-small s j h = rw (e, p .each j h, q .each j h) (s j)
+
+  pub sums-are : {r : Counters} {s : ℕ → ℤ} → r .at ≡ vec (λ j. valueAt a j +ℤ m *ℤ valueAt b j) → ((j : ℕ) → f j +ℤ n *ℤ g j ≡ s j) → r ≡ vecOf s
+  sums-are {s = s} i l =
+      ap (λ (k : List ℤ). record { at = k }) i
+      ∙ values-same (λ j. valueAt a j +ℤ m *ℤ valueAt b j) s (λ j h. rw (e, p .each j h, q .each j h) (l j))

@@ -1,0 +1,7 @@
+pub mod Tables
+pub mod Reads
+pub mod Entries
+pub mod Moves
+pub mod WaySums
+pub mod Sizes
+pub mod Stretches

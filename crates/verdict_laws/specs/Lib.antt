@@ -1,0 +1,10 @@
+pub mod Tells
+pub mod Steps
+pub mod Lines
+pub mod Kept
+pub mod Power
+pub mod Until
+pub mod Search
+pub mod Forms
+pub mod Judge
+pub mod Theorems
