@@ -1,6 +1,6 @@
--- What a record is answered, document 01's number and field for each answer, and the order in which refusals are tested.
+-- Document 01's numbers for every answer of the checker, to a record and of a judgement, and the order in which refusals are tested. No other place has them.
 use mathlib.Core.List.{List, [], _∷_}
-use mathlib.Core.Bool.{Bool}
+use mathlib.Core.Bool.{Bool, true, false}
 use Prim.Native.Nat.{ℕ, _<_}
 use lib.Dec.{eqb}
 use lib.ListN.{length, getD}
@@ -11,7 +11,7 @@ use Rattle.answers.specs.declared.Judgement.the-variants.{Accepted, Guar
 use Rattle.answers.specs.declared.Judgement.{Judgement}
 use Rattle.answers.specs.declared.Told.{Told}
 
--- each answer's numbers
+-- the result of each answer to a record, and the field that it names, counted from 1; 0 where it names none
 abbrev pub told : Answer → ℕ × ℕ
 told Taken = (0, 0)
 told NotARecord = (11, 0)
@@ -49,7 +49,18 @@ Before a b = turnOf (numberOf a) < turnOf (numberOf b)
 
 -- whether an answer says that the record is taken
 abbrev pub isTaken : Answer → Bool
-isTaken a = eqb (numberOf a) 0
+isTaken Taken = true
+isTaken NotARecord = false
+isTaken NoLineFeed = false
+isTaken NoSuchKind = false
+isTaken (Misspelled f) = false
+isTaken (Misfilled f) = false
+isTaken (OutOfRange f) = false
+isTaken OutOfOrder = false
+isTaken NoRoom = false
+isTaken (NotThere f) = false
+isTaken (Misplaced f) = false
+isTaken WrongWayIn = false
 
 -- the numbers of a refusal: its result, the record and the field
 abbrev pub refusal : ℕ → Answer → Told

@@ -90,7 +90,20 @@ impl Answer {
 pub fn is_taken(answer: Answer) -> bool
     ensures { λ r. ⌜ r ≡ isTaken answer ⌝ }
 {
-    answer.number() == 0
+    match answer {
+        Answer::Taken => true,
+        Answer::NotARecord => false,
+        Answer::NoLineFeed => false,
+        Answer::NoSuchKind => false,
+        Answer::Misspelled(_) => false,
+        Answer::Misfilled(_) => false,
+        Answer::OutOfRange(_) => false,
+        Answer::OutOfOrder => false,
+        Answer::NoRoom => false,
+        Answer::NotThere(_) => false,
+        Answer::Misplaced(_) => false,
+        Answer::WrongWayIn => false,
+    }
 }
 
 impl Judgement {

@@ -2,8 +2,8 @@
 use mathlib.Core.List.{List}
 use mathlib.Core.Bool.{cond}
 use Prim.Native.Nat.{ℕ}
-use Rattle.answers.specs.Answers.{numberOf, fieldOf, isTaken, numbersOf}
 use Rattle.answers.specs.declared.Told.{Told}
+use Rattle.answers.specs.Answers.{isTaken, refusal, numbersOf}
 use Rattle.collector.specs.declared.Collected.{Collected}
 use Rattle.collector.specs.Cases.{emptyCase, itemsOf}
 use Rattle.collector.specs.Taking.{collectedOf}
@@ -14,8 +14,7 @@ use Rattle.verdict.specs.Verdict.{verdict}
 abbrev pub answerAfter : Collected → Told
 answerAfter r =
     let x = itemsOf (r .case) in
-    cond (isTaken (r .answer)) (numbersOf (verdict x (startOf x)))
-    (record { result = numberOf (r .answer); second = r .taken; third = fieldOf (r .answer) })
+    cond (isTaken (r .answer)) (numbersOf (verdict x (startOf x))) (refusal (r .taken) (r .answer))
 
 -- the three numbers of a file
 unfoldable pub answerOf : List ℕ → Told

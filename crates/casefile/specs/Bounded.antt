@@ -7,17 +7,17 @@ use native.Mathlib.Omega.{arith}
 use lib.ListN.{length, take, drop, length-drop}
 use lib.Seq.{take-nil, take-take}
 use Rattle.record.specs.Layout.{recordLength, cutFrom, cut}
+use Rattle.answers.specs.Answers.{isTaken}
+use Rattle.rules.specs.Files.{itemCount}
 use Rattle.collector.specs.declared.Case.{Case}
 use Rattle.collector.specs.Cases.{emptyCase, itemsOf}
-use Rattle.answers.specs.Answers.{isTaken}
 use Rattle.collector.specs.Taking.{takenOf, collectedFrom, collectedOf}
-use Rattle.rules.specs.Files.{itemCount}
 use Rattle.collector.specs.Sound.{Sound}
 use Rattle.rules_laws.specs.Held.{sound-is-kept, taken-with}
 use Rattle.rules_laws.specs.Kept.{sound-empty, sound-kept}
 use Rattle.rules_laws.specs.Spelled.{size-more}
-use Rattle.casefile.specs.Answer.{answerAfter, answerOf}
 use Rattle.meaning.specs.Listed.{room}
+use Rattle.casefile.specs.Answer.{answerAfter, answerOf}
 use Rattle.casefile.specs.Listed.{within}
 
 -- the bytes of one record more than a case has room for

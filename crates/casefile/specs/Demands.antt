@@ -21,23 +21,23 @@ use Rattle.record.specs.Spell.{IsSpelling, ReadAs}
 use Rattle.kinds.specs.declared.Kind.{Kind}
 use Rattle.kinds.specs.declared.Kind.the-variants as kind
 use Rattle.kinds.specs.Kinds.{letterOf}
-use Rattle.answers.specs.declared.Answer.{Answer}
 use Rattle.items.specs.Items.{rowOf}
-use Rattle.collector.specs.declared.Case.{Case}
-use Rattle.collector.specs.Cases.{emptyCase, itemsOf}
 use Rattle.items.specs.Lists.{listOf}
+use Rattle.answers.specs.declared.Answer.{Answer}
+use Rattle.answers.specs.declared.Judgement.{Judgement}
 use Rattle.answers.specs.Answers.{isTaken, refusal, numbersOf}
-use Rattle.collector.specs.Taking.{takenOf, collectedOf}
 use Rattle.rules.specs.Rules.{contentAt}
 use Rattle.rules.specs.Files.{rowsOf, spelledBy, spelled, AllTaken, Refused}
+use Rattle.collector.specs.declared.Case.{Case}
+use Rattle.collector.specs.Cases.{emptyCase, itemsOf}
+use Rattle.collector.specs.Taking.{takenOf, collectedOf}
 use Rattle.rules_laws.specs.Theorems.{refused}
-use Rattle.answers.specs.declared.Judgement.{Judgement}
 use Rattle.meaning.specs.Judged.{Finished, Judged, startOf}
 use Rattle.meaning.specs.Paper.{Means}
 use Rattle.meaning.specs.Files.{FileAccepted, roundsAt}
+use Rattle.meaning.specs.Listed.{Listed}
 use Rattle.meaning_laws.specs.Theorems.{file-between}
 use Rattle.casefile.specs.Answer.{answerOf}
-use Rattle.meaning.specs.Listed.{Listed}
 use Rattle.casefile.specs.Listed.{listed}
 use Rattle.casefile.specs.Refused.{file-refused, file-ends}
 use Rattle.casefile.specs.Whole.{field-read}

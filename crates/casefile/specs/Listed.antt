@@ -19,11 +19,11 @@ use Rattle.kinds.specs.Table.{shapeOf}
 use Rattle.items.specs.declared.Ref.{Ref}
 use Rattle.items.specs.declared.Ref.the-variants as ref
 use Rattle.items.specs.Lists.{Items, listOf, countsOf, roomOf}
-use Rattle.checks.specs.declared.Fault.{Fault}
-use Rattle.checks.specs.declared.Fault.the-variants as fault
 use Rattle.answers.specs.declared.Answer.{Answer}
 use Rattle.answers.specs.declared.Answer.the-variants as answer
 use Rattle.answers.specs.Answers.{isTaken}
+use Rattle.checks.specs.declared.Fault.{Fault}
+use Rattle.checks.specs.declared.Fault.the-variants as fault
 use Rattle.checks.specs.Faults.{faultAt}
 use Rattle.rules.specs.Rules.{Applies, fieldsOf}
 use Rattle.rules.specs.Files.{itemCount}

@@ -6,6 +6,9 @@ use Prim.Native.Nat.{ℕ}
 use Prim.Native.String.{String, len, charAt}
 use Prim.Native.Char.{code}
 use lib.ListN.{take, set}
+use Rattle.laws.specs.Lowest.{lowest}
+use Rattle.laws.specs.Tab.{tab}
+use Rattle.laws.specs.All.{from, gather}
 use Rattle.record.specs.Spelling.{contentOf, negative, alone, leading, digits}
 use Rattle.record.specs.Spell.{lastDigits, numeral}
 use Rattle.record.specs.Layout.{fieldAt, recordOf, cutFrom, cut}
@@ -13,6 +16,11 @@ use Rattle.kinds.specs.Kinds.{kindOf}
 use Rattle.kinds.specs.Table.{shapeOf, ruleAt}
 use Rattle.counters.specs.Sum.{sum}
 use Rattle.items.specs.Items.{perCounter, stateOf, guardOf, moveOf, formOf, sentenceOf, markOf, placeOf}
+use Rattle.checks.specs.Faults.{lowestFault}
+use Rattle.checks.specs.Input.{rangeAnswer, extraAnswer, missingAnswer, formAnswer, fieldsAnswer, endedHead, headOf}
+use Rattle.collector.specs.Cases.{emptyCase, loopsFrom}
+use Rattle.collector.specs.Taking.{wayAnswer, markAnswer, placeAnswer, thereAnswer, roomAnswer, orderAnswer, takenAs, takenOf, collectedFrom, collectedOf}
+use Rattle.collector.specs.Taking as taking
 use Rattle.meaning.specs.Run.{moveAt}
 use Rattle.meaning.specs.Truth.{bit}
 use Rattle.meaning.specs.Judged.{startOf}
@@ -21,14 +29,6 @@ use Rattle.verdict.specs.Rounds.{firstOf, through}
 use Rattle.verdict.specs.Forward.{ways, drift, base}
 use Rattle.verdict.specs.Best.{greater, step, chain, wholeSum, power, limit, front}
 use Rattle.verdict.specs.Verdict.{formThrough, firstNot, verdict}
-use Rattle.laws.specs.Lowest.{lowest}
-use Rattle.laws.specs.Tab.{tab}
-use Rattle.laws.specs.All.{from, gather}
-use Rattle.checks.specs.Faults.{lowestFault}
-use Rattle.checks.specs.Input.{rangeAnswer, extraAnswer, missingAnswer, formAnswer, fieldsAnswer, endedHead, headOf}
-use Rattle.collector.specs.Cases.{emptyCase, loopsFrom}
-use Rattle.collector.specs.Taking.{wayAnswer, markAnswer, placeAnswer, thereAnswer, roomAnswer, orderAnswer, takenAs, takenOf, collectedFrom, collectedOf}
-use Rattle.collector.specs.Taking as taking
 use Rattle.output.specs.Line.{lineOf}
 use Rattle.casefile.specs.Answer.{answerOf}
 

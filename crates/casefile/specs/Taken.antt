@@ -7,20 +7,21 @@ use mathlib.Core.Bool.{true, cond, true≢false}
 use Prim.Native.Nat.{ℕ}
 use lib.Dec.{eqb}
 use borrow.Author.Tests.{eq-eqb}
+use Rattle.record.specs.Layout.{cut}
 use Rattle.kinds.specs.declared.Kind.{Kind}
 use Rattle.counters.specs.Sum.{Valuation}
 use Rattle.items.specs.Items.{rowOf}
-use Rattle.answers.specs.Answers.{numberOf, isTaken, numbersOf}
-use Rattle.answers.specs.declared.Told.{Told}
 use Rattle.items.specs.Lists.{Items, listOf}
-use Rattle.collector.specs.Cases.{emptyCase, itemsOf}
-use Rattle.collector.specs.Taking.{collectedOf}
-use Rattle.record.specs.Layout.{cut}
-use Rattle.rules.specs.Files.{rowsOf, spelled, AllTaken}
-use Rattle.rules_laws.specs.Stages.{refuses}
-use Rattle.rules_laws.specs.Theorems.{sound, spelled-case}
+use Rattle.answers.specs.declared.Told.{Told}
 use Rattle.answers.specs.declared.Judgement.{Judgement}
 use Rattle.answers.specs.declared.Judgement.the-variants.{Accepted, Unfinished, WrongStart, Unconnected, GuardFails, WrongMark, RootUnmarked}
+use Rattle.answers.specs.Answers.{numberOf, isTaken, numbersOf}
+use Rattle.answers.specs.Laws.{taken-is}
+use Rattle.rules.specs.Files.{rowsOf, spelled, AllTaken}
+use Rattle.collector.specs.Cases.{emptyCase, itemsOf}
+use Rattle.collector.specs.Taking.{collectedOf}
+use Rattle.rules_laws.specs.Stages.{refuses}
+use Rattle.rules_laws.specs.Theorems.{sound, spelled-case}
 use Rattle.meaning.specs.Judged.{Finished, IsAccepted, Judged, startOf}
 use Rattle.meaning.specs.Paper.{Means}
 use Rattle.meaning.specs.Files.{FileAccepted}
@@ -112,7 +113,7 @@ file-accepts bs = (
   λ z. ⊎-elim (λ t. record { taken = t; case = taken-accepts bs t .0 z })
       (λ (k, a, r).
       let e = ap (λ n. n .result) (sym (file-ends bs k a r .0)) ∙ z in
-      absurd (true≢false (sym (eq-eqb (numberOf a) 0 e) ∙ refuses _ _ a (r .first .applies))))
+      absurd (true≢false (sym (taken-is a ∙ eq-eqb (numberOf a) 0 e) ∙ refuses _ _ a (r .first .applies))))
       (file-refused bs),
   λ a. taken-accepts bs (a .taken) .1 (a .case),
 )

@@ -8,34 +8,34 @@ use Prim.Native.Nat.{ℕ}
 use Prim.Native.String.{String}
 use lib.IntN.{ℤ, pos}
 use lib.ListN.{take, set}
+use Rattle.laws.specs.Lowest.{lowest}
+use Rattle.laws.specs.All.{none, All, also, from, gather}
 use Rattle.record.specs.Spelling.{contentOf, negative, alone, leading, digits}
 use Rattle.record.specs.Layout.{fieldAt, recordOf, cutFrom, cut}
 use Rattle.kinds.specs.Kinds.{kindOf}
 use Rattle.kinds.specs.Table.{shapeOf, ruleAt}
 use Rattle.counters.specs.Sum.{sum}
 use Rattle.items.specs.Items.{perCounter, stateOf, guardOf, moveOf, formOf, sentenceOf, markOf, placeOf}
-use Rattle.rules.specs.Files.{rowsOf, spelled, AllTaken, Refused}
+use Rattle.items.specs.Lists.{Items}
 use Rattle.answers.specs.declared.Judgement.{Judgement}
+use Rattle.answers.specs.declared.Told.{Told}
+use Rattle.answers.specs.declared.Answer.{Answer}
+use Rattle.answers.specs.Answers.{numbers, numbersOf, refusal}
+use Rattle.checks.specs.Faults.{lowestFault}
+use Rattle.checks.specs.Input.{rangeAnswer, extraAnswer, missingAnswer, formAnswer, fieldsAnswer, endedHead, headOf}
+use Rattle.rules.specs.Files.{rowsOf, spelled, AllTaken, Refused}
+use Rattle.collector.specs.Cases.{emptyCase, loopsFrom}
+use Rattle.collector.specs.Taking.{wayAnswer, markAnswer, placeAnswer, thereAnswer, roomAnswer, orderAnswer, takenAs, takenOf, collectedFrom, collectedOf}
+use Rattle.collector.specs.Taking as taking
 use Rattle.meaning.specs.Run.{Spot, Way, next, spot, wayTaken, moveAt, countersAt}
 use Rattle.meaning.specs.Truth.{bit}
 use Rattle.meaning.specs.Judged.{Judged, startOf}
-use Rattle.answers.specs.declared.Told.{Told}
-use Rattle.answers.specs.Answers.{numbers, numbersOf, refusal}
 use Rattle.meaning_laws.specs.Walk.{at}
 use Rattle.verdict.specs.Labels.{weightOf}
 use Rattle.verdict.specs.Rounds.{firstOf, through}
 use Rattle.verdict.specs.Forward.{ways, drift, base}
 use Rattle.verdict.specs.Best.{greater, step, chain, wholeSum, power, limit, front}
 use Rattle.verdict.specs.Verdict.{formThrough, firstNot, verdict}
-use Rattle.answers.specs.declared.Answer.{Answer}
-use Rattle.laws.specs.Lowest.{lowest}
-use Rattle.laws.specs.All.{none, All, also, from, gather}
-use Rattle.checks.specs.Faults.{lowestFault}
-use Rattle.checks.specs.Input.{rangeAnswer, extraAnswer, missingAnswer, formAnswer, fieldsAnswer, endedHead, headOf}
-use Rattle.items.specs.Lists.{Items}
-use Rattle.collector.specs.Cases.{emptyCase, loopsFrom}
-use Rattle.collector.specs.Taking.{wayAnswer, markAnswer, placeAnswer, thereAnswer, roomAnswer, orderAnswer, takenAs, takenOf, collectedFrom, collectedOf}
-use Rattle.collector.specs.Taking as taking
 use Rattle.casefile.specs.Answer.{answerOf}
 use Rattle.casefile.specs.Refused.{file-refused, file-ends}
 use Rattle.casefile.specs.Taken.{judgement-is}

@@ -11,13 +11,13 @@ use Rattle.kinds.specs.declared.Letter.{Letter}
 use Rattle.kinds.specs.declared.Letter.the-variants.{Names, Unknown}
 use Rattle.kinds.specs.declared.Rule.the-variants as rule
 use Rattle.kinds.specs.declared.Sort.the-variants as sort
-use Rattle.checks.specs.declared.Fault.the-variants as fault
 use Rattle.kinds.specs.declared.Shape.{Shape}
-use Rattle.checks.specs.declared.Head.{Head}
-use Rattle.checks.specs.declared.Head.the-variants.{Of, Refused}
+use Rattle.kinds.specs.Kinds.{kindOf}
 use Rattle.answers.specs.declared.Answer.{Answer}
 use Rattle.answers.specs.declared.Answer.the-variants as answer
-use Rattle.kinds.specs.Kinds.{kindOf}
+use Rattle.checks.specs.declared.Fault.the-variants as fault
+use Rattle.checks.specs.declared.Head.{Head}
+use Rattle.checks.specs.declared.Head.the-variants.{Of, Refused}
 use Rattle.checks.specs.Faults.{outside, lowestFault}
 
 -- the answer where the lowest field with a fault is f, and the answer where there is none

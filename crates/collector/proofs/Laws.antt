@@ -25,7 +25,7 @@ use Rattle.checks.specs.declared.Head.the-variants.{Of, Refused}
 use Rattle.answers.specs.declared.Answer.{Answer}
 use Rattle.answers.specs.declared.Answer.the-variants.{Taken, NotARecord, NoLineFeed, OutOfOrder, NoRoom}
 use Rattle.answers.specs.Answers.{numberOf, fieldOf, testOrder, turnOf, isTaken}
-use Rattle.answers.specs.Laws.{in-order}
+use Rattle.answers.specs.Laws.{in-order, taken-is}
 use Rattle.checks.specs.Input.{fieldsAnswer, namedHead, endedHead, headOf}
 use Rattle.collector.specs.declared.Loops.{Loops}
 use Rattle.collector.specs.declared.Case.{Case}
@@ -165,7 +165,7 @@ cut-one bs h =
 
 is-so : (a : Answer) → isTaken a ≡ true → Taken ≡ a
 unfolding lowest
-is-so a h = sym (ap (λ n. getD (testOrder (fieldOf a)) (turnOf n) Taken) (eqb-true (numberOf a) 0 h)) ∙ in-order a
+is-so a h = sym (ap (λ n. getD (testOrder (fieldOf a)) (turnOf n) Taken) (eqb-true (numberOf a) 0 (sym (taken-is a) ∙ h))) ∙ in-order a
 
 abbrev answered : Collected → Result
 answered r = record { case = r .case; answer = r .answer }

@@ -1,4 +1,4 @@
--- The abstract case: the items of each kind as a list. A case: the one that holds given items, the empty one, and one with one item more.
+-- A case: the one that holds given items, the empty one, and one with one item more; and what is kept beside the items.
 use mathlib.Core.List.{List, [], _∷_, _++_}
 use mathlib.Core.Bool.{true, false, cond}
 use Prim.Native.Nat.{ℕ, _+_, _-_}
@@ -37,7 +37,7 @@ unfoldable pub loopsFrom : Loops → ℕ → List Place → Loops
 loopsFrom l n [] = l
 loopsFrom l n (p ∷ ps) = loopsFrom (loopsAfter l n (p .mark)) (n + 1) ps
 
--- ---- the abstract case
+-- ---- items
 
 -- the items with those of kind k changed by f
 abbrev pub changed : (k : Kind) → (List (Item k) → List (Item k)) → Items → Items

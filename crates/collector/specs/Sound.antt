@@ -16,10 +16,10 @@ use Rattle.items.specs.declared.Ref.the-variants as ref
 use Rattle.items.specs.declared.LoopMark.the-variants as mark
 use Rattle.items.specs.declared.Place.{Place}
 use Rattle.items.specs.Items.{itemOf, rowOf}
-use Rattle.collector.specs.declared.Case.{Case}
 use Rattle.items.specs.Lists.{listOf, roomOf, noItem}
-use Rattle.collector.specs.Cases.{itemsOf, caseOf}
 use Rattle.rules.specs.Rules.{IsBad, IsMissing, IsExtra, IsOutside, IsNotThere, markAt, isEndless, endAt}
+use Rattle.collector.specs.declared.Case.{Case}
+use Rattle.collector.specs.Cases.{itemsOf, caseOf}
 
 -- the shape of a row of fields
 abbrev pub shape : Kind → List Field → Shape

@@ -363,8 +363,7 @@ impl Case {
                 };
             };
             let row = Record::read(&src[at..e]);
-            let loops = self.derived.loops;
-            let answer = answer_of(self.count, loops, kind, row);
+            let answer = answer_of(self.count, self.derived.loops, kind, row);
             if answers::is_taken(answer) {
                 match kind {
                     Kind::State => {
@@ -393,9 +392,8 @@ impl Case {
                         self.places[n] = place;
                         self.count.places = n + 1;
                         let mark = place.mark;
-                        let derived = Derived {
-                            loops: loops.after(n, mark),
-                        };
+                        let loops = self.derived.loops.after(n, mark);
+                        let derived = Derived { loops: loops };
                         self.derived = derived;
                     }
                 }

@@ -2,22 +2,22 @@
 use mathlib.Core.Path.{_≡_, refl, _∙_, sym, ap}
 use mathlib.Core.Bool.{Bool, true, false, cond, _&&_}
 use Prim.Native.Nat.{ℕ, _+_, _-_}
-use borrow.Author.Tests.{eq-eqb, ne-eqb}
 use lib.Dec.{eqb, ltb}
 use lib.ListN.{getD}
+use borrow.Author.Tests.{eq-eqb, ne-eqb}
 use Rattle.kinds.specs.declared.Kind.the-variants as kind
 use Rattle.kinds.specs.declared.Counts.{Counts}
 use Rattle.items.specs.declared.Place.{Place}
+use Rattle.items.specs.Lists.{Items, noItem}
+use Rattle.answers.specs.declared.Judgement.{Judgement}
+use Rattle.answers.specs.declared.Judgement.the-variants.{Accepted, Unfinished, WrongStart, Unconnected, GuardFails, WrongMark, RootUnmarked}
+use Rattle.rules.specs.Files.{itemCount}
 use Rattle.collector.specs.declared.Case.{Case}
 use Rattle.collector.specs.declared.Derived.{Derived}
-use Rattle.items.specs.Lists.{Items, noItem}
 use Rattle.collector.specs.Cases.{itemsOf}
 use Rattle.collector.specs.Taking.{isClosed}
 use Rattle.collector.specs.Sound.{Sound}
 use Rattle.rules_laws.specs.Held.{counted, counts-are, derived}
-use Rattle.rules.specs.Files.{itemCount}
-use Rattle.answers.specs.declared.Judgement.{Judgement}
-use Rattle.answers.specs.declared.Judgement.the-variants.{Accepted, Unfinished, WrongStart, Unconnected, GuardFails, WrongMark, RootUnmarked}
 use Rattle.meaning.specs.Run.{Way}
 use Rattle.meaning.specs.Truth.{bit}
 use Rattle.meaning.specs.Judged.{startOf, stateAt, waysOf, Test, testsOf, Mark, marksOf, marked, root}

@@ -5,6 +5,7 @@ use native.Mathlib.Omega.{arith}
 use lib.Dec.{eqb}
 use Rattle.laws.specs.Tests.{cond-by}
 use Rattle.kinds.specs.declared.Kind.the-variants as kind
+use Rattle.counters.specs.declared.Counters.{Counters}
 use Rattle.items.specs.declared.Guard.{Guard}
 use Rattle.items.specs.Lists.{Items, roomOf}
 use Rattle.rules.specs.Rules.{markAt}
@@ -16,7 +17,6 @@ use Rattle.verdict.specs.declared.Rounds.the-variants as rounds
 use Rattle.verdict.specs.Rounds.{firstOf, roundsOf, later, roundsBy}
 use Rattle.verdict.specs.Verdict.{isAlways, passes}
 use Rattle.rounds.specs.Last.{lastOf, mostRounds}
-use Rattle.counters.specs.declared.Counters.{Counters}
 use Rattle.tables.specs.Sizes.{start-small}
 use Rattle.guards.specs.GuardSums.{SumsFit, throughBy, mark-few, Known, sums-fit, sums-are}
 

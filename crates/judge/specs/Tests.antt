@@ -13,8 +13,8 @@ use Rattle.items.specs.declared.Ref.{Ref}
 use Rattle.items.specs.declared.Ref.the-variants as ref
 use Rattle.items.specs.declared.Guard.{Guard}
 use Rattle.items.specs.declared.Move.{Move}
-use Rattle.collector.specs.declared.Case.{Case}
 use Rattle.items.specs.Lists.{Items, noItem, roomOf}
+use Rattle.collector.specs.declared.Case.{Case}
 use Rattle.collector.specs.Cases.{itemsOf}
 use Rattle.collector.specs.Sound.{Sound}
 use Rattle.rules_laws.specs.Held.{counted}
@@ -28,8 +28,8 @@ use Rattle.verdict.specs.Verdict.{Found, firstNot, passes, refNumber}
 use Rattle.tables.specs.declared.Firsts.{Firsts}
 use Rattle.tables.specs.Tables.{firstsOf}
 use Rattle.tables.specs.Reads.{at-places, at-moves, at-guards}
-use Rattle.marks.specs.Known.{first-is, rounds-are}
 use Rattle.guards.specs.Found.{found, found-start}
+use Rattle.marks.specs.Known.{first-is, rounds-are}
 use Rattle.judge.specs.Told.{isNamed, given}
 use Rattle.judge.specs.Laws.{listed, each, gather-two, gather-gather}
 use Rattle.judge.specs.Ways.{wayNo, isWay, ways-listed, move-held, move-below}

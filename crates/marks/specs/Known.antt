@@ -7,12 +7,13 @@ use native.Mathlib.Omega.{arith}
 use lib.Dec.{leb}
 use lib.ListN.{length, getD, List·getD-eq-default}
 use Rattle.kinds.specs.declared.Kind.the-variants as kind
+use Rattle.counters.specs.declared.Counters.{Counters}
 use Rattle.items.specs.declared.State.{State}
 use Rattle.items.specs.declared.Form.{Form}
 use Rattle.items.specs.declared.Sentence.{Sentence}
 use Rattle.items.specs.declared.Place.{Place}
-use Rattle.collector.specs.declared.Case.{Case}
 use Rattle.items.specs.Lists.{Items, roomOf, noItem}
+use Rattle.collector.specs.declared.Case.{Case}
 use Rattle.collector.specs.Cases.{itemsOf}
 use Rattle.collector.specs.Sound.{Sound}
 use Rattle.rules_laws.specs.Held.{counted}
@@ -24,7 +25,6 @@ use Rattle.verdict.specs.declared.Throughout.{Throughout}
 use Rattle.verdict.specs.Rounds.{firstOf, loopOf, roundsOf, flag}
 use Rattle.verdict.specs.Forward.{drift, base}
 use Rattle.verdict.specs.Verdict.{nextBy, nextThrough, formThrough, isAlways, isNever}
-use Rattle.counters.specs.declared.Counters.{Counters}
 use Rattle.tables.specs.declared.Firsts.{Firsts}
 use Rattle.tables.specs.declared.Tables.{Tables}
 use Rattle.tables.specs.Tables.{vecOf, firstsOf, tablesOf}

@@ -4,17 +4,17 @@ use mathlib.Core.List.{List, map}
 use mathlib.Core.Bool.{Bool, true, false, cond}
 use Prim.Native.Nat.{ℕ, zero, suc, _+_, _≤_, _<_}
 use native.Mathlib.Omega.{arith}
-use borrow.Author.Tests.{lt-ltb, le-ltb}
 use lib.Dec.{ltb}
 use lib.ListN.{length}
+use borrow.Author.Tests.{lt-ltb, le-ltb}
 use Rattle.laws.specs.All.{from}
 use Rattle.items.specs.Lists.{Items}
 use Rattle.meaning.specs.Judged.{startOf, Mark, marksOf}
 use Rattle.verdict.specs.Verdict.{Found, nowhere, at, firstNot, markRight}
 use Rattle.guards.specs.declared.Search.{Search}
 use Rattle.guards.specs.declared.Search.the-variants.{Nowhere, At}
-use Rattle.marks.specs.Wrong.{firstOff, wrongOf, toldMark}
 use Rattle.guards.specs.Found.{elseFound, found, found-start, found-turn, found-end}
+use Rattle.marks.specs.Wrong.{firstOff, wrongOf, toldMark}
 
 -- ---- a row, which has a k for each number k
 

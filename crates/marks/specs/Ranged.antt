@@ -11,11 +11,6 @@ use Rattle.laws.specs.Order.{lt-false}
 use Rattle.laws.specs.Arithmetic.{le-in}
 use Rattle.laws.specs.Sizes.{size, add-size, Within, within-size}
 use Rattle.laws.specs.Tests.{cond-by, neither}
-use Rattle.checks.specs.Faults.{beyond}
-use Rattle.collector.specs.declared.Case.{Case}
-use Rattle.collector.specs.Cases.{itemsOf}
-use Rattle.items.specs.Lists.{noItem}
-use Rattle.maxplus.specs.Bounds.{Light}
 use Rattle.record.specs.declared.Content.the-variants.{Number}
 use Rattle.kinds.specs.declared.Kind.the-variants as kind
 use Rattle.kinds.specs.Table.{fromTo, ruleAt, shapeOf}
@@ -24,11 +19,16 @@ use Rattle.items.specs.declared.Term.the-variants as term
 use Rattle.items.specs.declared.Form.{Form}
 use Rattle.items.specs.declared.Form.the-variants as form
 use Rattle.items.specs.declared.Sentence.{Sentence}
+use Rattle.items.specs.Lists.{noItem}
 use Rattle.items.specs.Items.{rowOf}
+use Rattle.checks.specs.Faults.{beyond}
+use Rattle.collector.specs.declared.Case.{Case}
+use Rattle.collector.specs.Cases.{itemsOf}
 use Rattle.collector.specs.Sound.{Sound, Fit}
 use Rattle.rules_laws.specs.Fields.{met}
 use Rattle.rules_laws.specs.Held.{counted}
 use Rattle.verdict.specs.Labels.{worth, weightOf, labelOf}
+use Rattle.maxplus.specs.Bounds.{Light}
 
 -- a term with a coefficient from -999 to 999
 abbrev pub Mild : Term → Type 0

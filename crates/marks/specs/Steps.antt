@@ -1,22 +1,22 @@
 -- The loop that fills the table of an until's steps, place by place: past the places that are held nothing is marked, so nothing is left to do there.
 -- Assumes nothing.
 use mathlib.Core.Path.{_≡_, refl, sym, _∙_, ap}
-use mathlib.Core.Bool.{Bool, true, false}
 use mathlib.Core.List.{List}
+use mathlib.Core.Bool.{Bool, true, false}
 use Prim.Native.Nat.{ℕ, _+_, _≤_, _<_}
 use native.Mathlib.Decide.{decLt}
 use native.Mathlib.Omega.{arith}
+use lib.Dec.{eqb}
+use lib.IntN.{ℤ, pos}
 use lib.ListN.{length, set, getD, replicate, length-set, length-replicate}
 use lib.Seq.{getD-set-same, getD-set-other, ext-getD}
-use lib.Dec.{eqb}
 use borrow.Author.Tests.{eqb-true, eqb-false}
-use lib.IntN.{ℤ, pos}
 use Rattle.laws.specs.Tab.{tab, length-tab}
 use Rattle.kinds.specs.declared.Kind.the-variants as kind
 use Rattle.items.specs.declared.Term.{Term}
 use Rattle.items.specs.Lists.{Items, roomOf}
-use Rattle.verdict.specs.Labels.{Label, weightOf}
 use Rattle.meaning.specs.Judged.{marked}
+use Rattle.verdict.specs.Labels.{Label, weightOf}
 use Rattle.maxplus.specs.declared.Steps.{Steps}
 use Rattle.maxplus.specs.Numbers.{none, nth, choiceBy, stopOf, goOf}
 use Rattle.maxplus.specs.Shows.{StepsAre}

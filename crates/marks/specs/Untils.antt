@@ -1,25 +1,25 @@
 -- One turn of the loop over the places, the last first, that finds the best sums of an until as numbers. Assumes nothing.
 use mathlib.Core.Path.{_≡_, refl, sym, _∙_, ap, ap₂, subst}
-use mathlib.Core.Bool.{Bool, true, false, cond}
 use mathlib.Core.List.{List}
+use mathlib.Core.Bool.{Bool, true, false, cond}
 use Prim.Native.Nat.{ℕ, suc, _+_, _-_, _*_, _≤_, _<_, _^_}
 use native.Mathlib.Omega.{arith}
 use lib.Dec.{leb}
 use lib.IntN.{ℤ}
-use lib.ListN.{length}
 use lib.Signed.{leZ}
+use lib.ListN.{length}
+use borrow.Author.Tests.{le-leb, lt-leb}
 use mir.Syntax.{w64}
 use mir.Val.{toZ, ofZ}
-use borrow.Author.Tests.{le-leb, lt-leb}
 use Rattle.laws.specs.Sizes.{size, size-read}
 use Rattle.laws.specs.Down.{down-more}
 use Rattle.kinds.specs.declared.Kind.the-variants as kind
 use Rattle.items.specs.declared.LoopMark.{LoopMark}
 use Rattle.items.specs.declared.Place.{Place}
 use Rattle.items.specs.Lists.{Items, roomOf}
-use Rattle.verdict.specs.Labels.{Label}
 use Rattle.meaning.specs.Run.{stretch}
 use Rattle.meaning_laws.specs.Facts.{Facts}
+use Rattle.verdict.specs.Labels.{Label}
 use Rattle.verdict.specs.Best as best
 use Rattle.verdict.specs.Rounds.{firstOf, loopOf, isLast, roundsOf, agree}
 use Rattle.verdict.specs.Best.{Best, Front, step, chain, wholeSum, onFirst, onLast, frontBy, front}

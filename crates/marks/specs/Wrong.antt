@@ -8,11 +8,11 @@ use Rattle.kinds.specs.declared.Kind.the-variants as kind
 use Rattle.items.specs.declared.Form.{Form}
 use Rattle.items.specs.declared.Form.the-variants as form
 use Rattle.items.specs.Lists.{Items, roomOf, noItem}
-use Rattle.verdict.specs.Labels.{Label}
 use Rattle.meaning.specs.Truth.{bit}
 use Rattle.meaning.specs.Run.{placeAt}
 use Rattle.meaning.specs.Judged.{startOf, stateAt, marked, Mark}
 use Rattle.verdict.specs.declared.Throughout.{Throughout}
+use Rattle.verdict.specs.Labels.{Label}
 use Rattle.verdict.specs.Rounds.{flag}
 use Rattle.verdict.specs.Best.{front}
 use Rattle.verdict.specs.Verdict.{Found, nowhere, at, untilThrough, formThrough, isAlways, isNever}

@@ -5,9 +5,9 @@ use lib.Signed.{_≤ℤ_}
 use Rattle.laws.specs.Sizes.{size}
 use Rattle.kinds.specs.declared.Kind.the-variants as kind
 use Rattle.items.specs.Lists.{roomOf}
-use Rattle.verdict.specs.Labels.{Label}
 use Rattle.verdict.specs.declared.Rounds.{Rounds}
 use Rattle.verdict.specs.declared.Rounds.the-variants as rounds
+use Rattle.verdict.specs.Labels.{Label}
 use Rattle.rounds.specs.Last.{mostRounds}
 use Rattle.maxplus.specs.declared.Round.{Round}
 

@@ -16,8 +16,8 @@ use Rattle.kinds.specs.declared.Kind.the-variants as kind
 use Rattle.items.specs.declared.LoopMark.{LoopMark}
 use Rattle.items.specs.declared.LoopMark.the-variants as mark
 use Rattle.items.specs.Lists.{roomOf}
-use Rattle.verdict.specs.Labels.{Label}
 use Rattle.meaning.specs.Run.{stretch}
+use Rattle.verdict.specs.Labels.{Label}
 use Rattle.verdict.specs.Best as best
 use Rattle.verdict.specs.Rounds.{roundsOf}
 use Rattle.verdict.specs.Best.{Best, isReached, plus, greater, onward, step, chain, wholeSum, positive, power, limit, onFirst, onLast}

@@ -10,6 +10,6 @@ pub record FileAccepted (bs : List ℕ) : Type 0 where
   pub taken : AllTaken (cut bs)
   pub case : IsAccepted (spelled bs) (startOf (spelled bs))
 
--- where the rounds field of a record begins, and how many bytes come after it
+-- where the rounds field, field 5, begins in the record of a place
 abbrev pub roundsAt : ℕ
 roundsAt = 1 + 4 * width

@@ -170,5 +170,3 @@ Judged x θ (WrongMark p i) =
     Guarded x θ × ((k : Mark) × First (Right x θ) (Wrong x θ) (marksOf x) k × (k .place ≡ p .0) × (k .sentence ≡ i))
 Judged x θ (RootUnmarked r) = Labelled x θ × (marked x (root x) 0 ≡ false) × (r ≡ root x)
 Judged x θ Accepted = IsAccepted x θ
-
--- ---- the numbers of an answer

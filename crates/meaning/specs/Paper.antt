@@ -1,4 +1,4 @@
--- Demand 2 in its own words, with the paper's run (003, section 2). A case is accepted exactly where this holds (Theorems.antt).
+-- Demand 2 in its own words, with the paper's run (003, section 2). A case is accepted exactly where this holds (meaning_laws/specs/Theorems.antt).
 use mathlib.Core.Path.{_≡_}
 use mathlib.Core.Logic.{_↔_}
 use mathlib.Core.List.{List, _∷_}

@@ -58,20 +58,20 @@ pub record Until (Held Goal : Moment → Type 0) (bound : ℤ) (ts : List Counte
 
 -- ---- sentences
 
--- a term of a sentence, if there is one, where True tells the truth of the sentences
+-- a term of a sentence, if there is one, where Holds tells the truth of the sentences
 abbrev pub countedTerms : (ℕ → Moment → Type 0) → Term → List Counted
-countedTerms True term.None = []
-countedTerms True (term.Some c s) = record { coefficient = c; Counts = True s } ∷ []
+countedTerms Holds term.None = []
+countedTerms Holds (term.Some c s) = record { coefficient = c; Counts = Holds s } ∷ []
 
--- what a form says of moment i, where True tells the truth of the sentences that it refers to
+-- what a form says of moment i, where Holds tells the truth of the sentences that it refers to
 abbrev pub Says : List Guard → Trace → (ℕ → Moment → Type 0) → Form → Moment → Type 0
-Says gs t True form.True i = Unit {0}
-Says gs t True (form.Proposition p) i = bit (t .propositions i) p ≡ true
-Says gs t True (form.Guard g) i = Meets (guardAt gs g) (t .counters i)
-Says gs t True (form.And a b) i = True a i × True b i
-Says gs t True (form.Not a) i = True a i → ⊥
-Says gs t True (form.Next a) i = True a (suc i)
-Says gs t True (form.Until a b z u v) i = Until (True a) (True b) z (countedTerms True u ++ countedTerms True v) i
+Says gs t Holds form.True i = Unit {0}
+Says gs t Holds (form.Proposition p) i = bit (t .propositions i) p ≡ true
+Says gs t Holds (form.Guard g) i = Meets (guardAt gs g) (t .counters i)
+Says gs t Holds (form.And a b) i = Holds a i × Holds b i
+Says gs t Holds (form.Not a) i = Holds a i → ⊥
+Says gs t Holds (form.Next a) i = Holds a (suc i)
+Says gs t Holds (form.Until a b z u v) i = Until (Holds a) (Holds b) z (countedTerms Holds u ++ countedTerms Holds v) i
 
 -- the truth of the sentences below number n
 unfoldable pub TrueBelow : List Guard → List Sentence → Trace → ℕ → ℕ → Moment → Type 0

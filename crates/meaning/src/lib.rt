@@ -1,2 +1,1 @@
-// What a plan means, and the answers of a judgement. The meaning stands in specs/; there is no code that runs.
-use items::PlaceNo;
+// What a plan means: the run, truth, acceptance, and what each answer of a judgement says. Definitions, no code. They stand in specs/.

@@ -16,19 +16,19 @@ use Rattle.kinds.specs.declared.Kind.the-variants.{State, Guard, Move, Sentence
 use Rattle.kinds.specs.declared.Counts.{Counts}
 use Rattle.kinds.specs.declared.Sort.the-variants.{Rounds}
 use Rattle.kinds.specs.Table.{rangeOf, shapeOf, ruleAt}
+use Rattle.items.specs.Items.{Item, itemOf, placeOf, markOf}
+use Rattle.answers.specs.Answers.{isTaken}
 use Rattle.checks.specs.declared.Fault.{Fault}
 use Rattle.checks.specs.declared.Fault.the-variants.{Misspelled, Missing, Extra, OutOfRange, NotThere}
 use Rattle.checks.specs.Faults.{beyond, faultAt, lowestFault}
 use Rattle.checks.specs.Input.{headOf, rangeAnswer, extraAnswer, missingAnswer, formAnswer, fieldsAnswer}
-use Rattle.items.specs.Items.{Item, itemOf, placeOf, markOf}
+use Rattle.rules.specs.Rules.{IsA}
 use Rattle.collector.specs.declared.Case.{Case}
 use Rattle.collector.specs.declared.Loops.{Loops}
 use Rattle.collector.specs.declared.Result.{Result}
 use Rattle.collector.specs.declared.Collected.{Collected}
 use Rattle.collector.specs.Cases.{oneMore, loopsAfter, with}
-use Rattle.answers.specs.Answers.{isTaken}
 use Rattle.collector.specs.Taking.{recordAnswer, orderAnswer, roomAnswer, thereAnswer, placeAnswer, markAnswer, wayAnswer, takenAs, takenBy, takenOf, collectedFrom}
-use Rattle.rules.specs.Rules.{IsA}
 use Rattle.rules_laws.specs.Letters.{one-kind, by-head}
 use Rattle.meaning_laws.specs.Around.{rowWith}
 

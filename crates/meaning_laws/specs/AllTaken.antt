@@ -12,15 +12,15 @@ use Rattle.record.specs.declared.Field.{Field}
 use Rattle.record.specs.Layout.{recordOf, cut}
 use Rattle.kinds.specs.declared.Kind.{Kind}
 use Rattle.kinds.specs.Kinds.{letterOf}
-use Rattle.answers.specs.declared.Answer.{Answer}
 use Rattle.items.specs.Items.{itemOf}
-use Rattle.collector.specs.declared.Case.{Case}
-use Rattle.collector.specs.Cases.{emptyCase, itemsOf}
 use Rattle.items.specs.Lists.{listOf}
+use Rattle.answers.specs.declared.Answer.{Answer}
 use Rattle.answers.specs.Answers.{isTaken}
-use Rattle.collector.specs.Taking.{takenOf, collectedFrom, collectedOf}
 use Rattle.rules.specs.Rules.{Applies}
 use Rattle.rules.specs.Files.{rowsOf, spelledBy, AllTaken}
+use Rattle.collector.specs.declared.Case.{Case}
+use Rattle.collector.specs.Cases.{emptyCase, itemsOf}
+use Rattle.collector.specs.Taking.{takenOf, collectedFrom, collectedOf}
 use Rattle.collector.specs.Sound.{Sound}
 use Rattle.rules_laws.specs.Stages.{refuses}
 use Rattle.rules_laws.specs.Held.{list-by, items-same, sound-is-kept, taken-with}

@@ -15,10 +15,10 @@ use Rattle.items.specs.declared.Sentence.{Sentence}
 use Rattle.items.specs.Lists.{Items}
 use Rattle.answers.specs.declared.Judgement.{Judgement}
 use Rattle.answers.specs.declared.Judgement.the-variants.{Accepted, Unfinished, WrongStart, Unconnected, GuardFails, WrongMark, RootUnmarked}
+use Rattle.answers.specs.Answers.{numbersOf}
 use Rattle.meaning.specs.Run.{Moment, Way}
 use Rattle.meaning.specs.Truth.{Trace, True}
 use Rattle.meaning.specs.Judged.{stateAt, waysOf, Connects, Test, testsOf, Passes, Fails, Mark, marksOf, marked, root, Right, Wrong, Finished, IsAccepted, Judged}
-use Rattle.answers.specs.Answers.{numbersOf}
 
 -- ---- an answer by its numbers
 

@@ -17,8 +17,8 @@ use Rattle.items.specs.Lists.{Items}
 use Rattle.meaning.specs.Run.{Moment, here, spot}
 use Rattle.meaning.specs.Truth.{Trace, Until, countedTerms, TrueBelow, True}
 use Rattle.meaning.specs.Judged.{marked, TrueAt, traceOf}
-use Rattle.meaning_laws.specs.Facts.{Refers}
 use Rattle.verdict.specs.Labels.{labelOf}
+use Rattle.meaning_laws.specs.Facts.{Refers}
 use Rattle.meaning_laws.specs.Counting.{Gets, until-gets, adds-weight}
 
 pub below : (gs : List Guard) (fs : List Sentence) (t : Trace) (n j : ℕ) (m : Moment) → j < n → TrueBelow gs fs t n j m ≡ True gs fs t j m

@@ -10,12 +10,12 @@ use native.Mathlib.Nat.{add-assoc, add-suc, add-zero, suc-add, zero-add}
 use lib.IntN.{ℤ, pos, negsuc, _+ℤ_, negℤ, +ℤ-assoc, +ℤ-idl, +ℤ-idr}
 use lib.Signed.{_≤ℤ_}
 use Rattle.laws.specs.Order.{up, down}
+use Rattle.laws.specs.Arithmetic.{le-out, le-in, le-or, add-rel, neg-rel}
 use Rattle.items.specs.declared.Term.{Term}
 use Rattle.items.specs.declared.Term.the-variants as term
-use Rattle.laws.specs.Arithmetic.{le-out, le-in, le-or, add-rel, neg-rel}
-use Rattle.verdict.specs.Labels.{Label, worth, weightOf}
 use Rattle.meaning.specs.Run.{Moment}
 use Rattle.meaning.specs.Truth.{Counted, Adds, Sum, Until, countedTerms}
+use Rattle.verdict.specs.Labels.{Label, worth, weightOf}
 use Rattle.meaning_laws.specs.Facts.{TermRefers}
 
 -- the weights of the n moments from i on

@@ -6,22 +6,22 @@ use Prim.Native.Nat.{ℕ, suc, _+_, _-_, _*_, _/_, _%_, _≤_, _<_}
 use native.Mathlib.Nat.{div-add-mod', mod-lt}
 use native.Mathlib.Omega.{arith}
 use lib.ListN.{length, getD}
+use Rattle.laws.specs.Arithmetic.{le-out, le-or}
 use Rattle.kinds.specs.declared.Kind.the-variants as kind
+use Rattle.counters.specs.Sum.{Valuation, sum}
 use Rattle.items.specs.declared.LoopMark.{LoopMark}
 use Rattle.items.specs.declared.LoopMark.the-variants as mark
 use Rattle.items.specs.declared.Form.{Form}
 use Rattle.items.specs.declared.Form.the-variants as form
 use Rattle.items.specs.Lists.{Items, noItem}
 use Rattle.rules.specs.Rules.{markAt, lengthOf, isEndless, Closed}
-use Rattle.laws.specs.Arithmetic.{le-out, le-or}
-use Rattle.counters.specs.Sum.{Valuation, sum}
 use Rattle.meaning.specs.Run.{Moment, here, stretch, goesAgain, spot, guardAt}
 use Rattle.meaning.specs.Truth.{Says, bit}
 use Rattle.meaning.specs.Judged.{marked, TrueAt, traceOf}
+use Rattle.verdict.specs.Labels.{labelOf}
 use Rattle.meaning_laws.specs.Facts.{Facts, Laid, Refers}
 use Rattle.meaning_laws.specs.Walk.{Reached, reach, in-stretch}
 use Rattle.meaning_laws.specs.Counting.{Decided, gets-decided}
-use Rattle.verdict.specs.Labels.{labelOf}
 use Rattle.meaning_laws.specs.Below.{RightBelow, SaysBelow, says-below, until-labels}
 
 -- ---- the endless loop comes again and again

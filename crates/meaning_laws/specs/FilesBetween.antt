@@ -12,6 +12,7 @@ use lib.Seq.{set-append-seam, getD-append-seam}
 use borrow.Author.Tests.{ltb-false}
 use Rattle.laws.specs.Order.{up, down, zarith}
 use Rattle.laws.specs.Tests.{neither}
+use Rattle.laws.specs.Arithmetic.{le-out}
 use Rattle.record.specs.declared.Content.{Content}
 use Rattle.record.specs.declared.Content.the-variants.{Blank, Number, Bad}
 use Rattle.record.specs.declared.Field.{Field}
@@ -24,28 +25,27 @@ use Rattle.kinds.specs.declared.Kind.{Kind}
 use Rattle.kinds.specs.declared.Kind.the-variants as kind
 use Rattle.kinds.specs.Kinds.{letterOf}
 use Rattle.kinds.specs.Table.{isBlank, natural, shapeOf, ruleAt}
-use Rattle.checks.specs.Faults.{misspelled}
 use Rattle.items.specs.declared.LoopMark.the-variants as mark
 use Rattle.items.specs.declared.Place.{Place}
 use Rattle.items.specs.Items.{itemOf, markOf, placeOf, byteOf}
-use Rattle.collector.specs.declared.Case.{Case}
 use Rattle.items.specs.Lists.{Items, listOf, noItem}
-use Rattle.collector.specs.Cases.{emptyCase}
 use Rattle.answers.specs.Answers.{isTaken}
-use Rattle.collector.specs.Taking.{takenOf, collectedFrom, collectedOf}
+use Rattle.checks.specs.Faults.{misspelled}
 use Rattle.rules.specs.Rules.{IsA, markAt}
 use Rattle.rules.specs.Files.{rowsOf, spelledBy, spelled}
+use Rattle.collector.specs.declared.Case.{Case}
+use Rattle.collector.specs.Cases.{emptyCase}
+use Rattle.collector.specs.Taking.{takenOf, collectedFrom, collectedOf}
 use Rattle.collector.specs.Sound.{Fit}
 use Rattle.rules_laws.specs.Fields.{met}
 use Rattle.rules_laws.specs.Letters.{one-kind}
 use Rattle.rules_laws.specs.Held.{taken-with}
 use Rattle.rules_laws.specs.Spelled.{rows-same, rows-other, goes-on}
 use Rattle.rules_laws.specs.Theorems.{sound, spelled-case}
-use Rattle.laws.specs.Arithmetic.{le-out}
 use Rattle.meaning.specs.Judged.{startOf, IsAccepted}
 use Rattle.meaning.specs.Files.{FileAccepted, roundsAt}
-use Rattle.meaning_laws.specs.Facts.{Facts, start-with}
 use Rattle.meaning.specs.Rounds.{markWith, placeWith, placesWith, withRounds}
+use Rattle.meaning_laws.specs.Facts.{Facts, start-with}
 use Rattle.meaning_laws.specs.Given.{facts}
 use Rattle.meaning_laws.specs.Third.{between}
 use Rattle.meaning_laws.specs.AllTaken.{spelled-append, all-taken}

@@ -17,8 +17,8 @@ use Rattle.items.specs.declared.Place.{Place}
 use Rattle.items.specs.Lists.{noItem}
 use Rattle.rules.specs.Rules.{markAt}
 use Rattle.meaning.specs.Run.{Moment, Spot, Step, here, stretch, goesAgain, next, spot, wayTaken, placeAt}
-use Rattle.meaning_laws.specs.Facts.{Laid}
 use Rattle.meaning.specs.Rounds.{markWith, placeWith, placesWith}
+use Rattle.meaning_laws.specs.Facts.{Laid}
 use Rattle.meaning_laws.specs.Walk.{at, no-less, in-stretch, Reached, reach}
 
 -- plans P 0, P 1, .. whose runs have one loop with 1, 2, .. rounds: each has one round more than the one before

@@ -16,8 +16,8 @@ use Rattle.rules.specs.Rules.{markAt, lengthOf, isEndless, endAt, Closed}
 use Rattle.meaning.specs.Run.{Way, stretch, backOf, placeAt, moveNo, moveAt, moveBy, guardsOf}
 use Rattle.meaning.specs.Truth.{bit}
 use Rattle.meaning.specs.Judged.{stateAt, waysInto, wayBack, wayIn, waysOf, placeBefore, Connects, testsOf, marked}
-use Rattle.meaning_laws.specs.Facts.{Laid}
 use Rattle.meaning.specs.Rounds.{markWith, placeWith, placesWith, withRounds}
+use Rattle.meaning_laws.specs.Facts.{Laid}
 
 -- what f tells of an item stays where the item that is set tells the same
 set-keeps : {A B : Type 0} (f : A → B) (l : List A) (s p : ℕ) (v d : A) → f v ≡ f (getD l s d) → f (getD (set l s v) p d) ≡ f (getD l p d)

@@ -1,5 +1,6 @@
--- What is proved of the meaning: start here. The run is in Run.antt, truth in Truth.antt, acceptance and each answer in Judged.antt, demand 2 in its own
--- words in Paper.antt, the files that are accepted in Files.antt. `Sound` is the invariant of every case that records make (crate rules). Assumes nothing.
+-- What is proved of the meaning: start here. In the crate meaning, the run is in Run.antt, truth in Truth.antt, acceptance and each answer in Judged.antt,
+-- demand 2 in its own words in Paper.antt, the files that are accepted in Files.antt. `Sound` is the invariant of every case that records make (crate
+-- collector). Assumes nothing.
 use mathlib.Core.Path.{_≡_}
 use mathlib.Core.Logic.{_↔_, _⊎_}
 use mathlib.Core.List.{List, _++_}
@@ -10,28 +11,28 @@ use lib.IntN.{ℤ}
 use lib.Signed.{_≤ℤ_}
 use lib.ListN.{length, getD}
 use Rattle.laws.specs.Sizes.{size-within, Within}
+use Rattle.record.specs.Layout.{recordLength, cut}
+use Rattle.record.specs.Spell.{IsSpelling}
 use Rattle.kinds.specs.declared.Kind.the-variants as kind
 use Rattle.kinds.specs.Kinds.{letterOf}
 use Rattle.kinds.specs.Table as table
-use Rattle.record.specs.Layout.{recordLength, cut}
-use Rattle.record.specs.Spell.{IsSpelling}
 use Rattle.counters.specs.Sum.{Valuation, sum}
 use Rattle.items.specs.declared.LoopMark.the-variants as mark
 use Rattle.items.specs.declared.Guard.{Guard}
 use Rattle.items.specs.declared.Sentence.{Sentence}
+use Rattle.items.specs.Lists.{Items}
+use Rattle.answers.specs.declared.Judgement.{Judgement}
+use Rattle.answers.specs.Answers.{isTaken, numbersOf}
+use Rattle.rules.specs.Rules.{markAt, Closed}
+use Rattle.rules.specs.Files.{AllTaken}
 use Rattle.collector.specs.declared.Case.{Case}
 use Rattle.collector.specs.Cases.{emptyCase, itemsOf}
-use Rattle.items.specs.Lists.{Items}
-use Rattle.answers.specs.Answers.{isTaken, numbersOf}
 use Rattle.collector.specs.Taking.{collectedOf}
-use Rattle.rules.specs.Rules.{markAt, Closed}
 use Rattle.collector.specs.Sound.{Sound}
-use Rattle.answers.specs.declared.Judgement.{Judgement}
 use Rattle.meaning.specs.Run.{Moment, here, spot, countersAt, guardAt, Early}
 use Rattle.meaning.specs.Truth.{Trace, True}
 use Rattle.meaning.specs.Judged.{Finished, IsAccepted, Judged, marked, TrueAt, startOf}
 use Rattle.meaning.specs.Paper.{Means}
-use Rattle.rules.specs.Files.{AllTaken}
 use Rattle.meaning.specs.Files.{FileAccepted, roundsAt}
 use Rattle.meaning.specs.Rounds.{withRounds}
 use Rattle.meaning_laws.specs.Given.{facts}

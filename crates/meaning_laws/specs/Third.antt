@@ -10,7 +10,12 @@ use native.Mathlib.Omega.{arith}
 use lib.IntN.{ℤ, pos, negℤ, _+ℤ_}
 use lib.Signed.{_≤ℤ_}
 use lib.ListN.{length, getD}
+use Rattle.laws.specs.Order.{up, down}
+use Rattle.laws.specs.Arithmetic.{le-out, le-in, eq-in, le-or, add-rel, neg-rel}
+use Rattle.laws.specs.All.{All}
+use Rattle.laws.specs.Members.{all-map, all-zip}
 use Rattle.kinds.specs.declared.Kind.the-variants as kind
+use Rattle.counters.specs.Sum.{Valuation, sum}
 use Rattle.items.specs.declared.LoopMark.the-variants as mark
 use Rattle.items.specs.declared.Term.{Term}
 use Rattle.items.specs.declared.Form.{Form}
@@ -19,19 +24,14 @@ use Rattle.items.specs.declared.Guard.{Guard}
 use Rattle.items.specs.declared.Place.{Place}
 use Rattle.items.specs.Lists.{Items, noItem}
 use Rattle.rules.specs.Rules.{markAt}
-use Rattle.laws.specs.Order.{up, down}
-use Rattle.laws.specs.Arithmetic.{le-out, le-in, eq-in, le-or, add-rel, neg-rel}
-use Rattle.laws.specs.All.{All}
-use Rattle.laws.specs.Members.{all-map, all-zip}
-use Rattle.counters.specs.Sum.{Valuation, sum}
 use Rattle.meaning.specs.Run.{Moment, here, spot, wayTaken, Way, moveBy, update, countersAt, Meets, guardAt}
 use Rattle.meaning.specs.Truth.{Says, True, bit, Until, countedTerms}
 use Rattle.meaning.specs.Judged.{IsAccepted, stateAt, Test, Passes, marksOf, Right, marked, root, TrueAt, traceOf}
-use Rattle.meaning_laws.specs.Facts.{Facts, Refers}
 use Rattle.meaning.specs.Rounds.{placesWith, withRounds}
+use Rattle.verdict.specs.Labels.{Label, labelOf}
+use Rattle.meaning_laws.specs.Facts.{Facts, Refers}
 use Rattle.meaning_laws.specs.Lists.{all-grid}
 use Rattle.meaning_laws.specs.Rounds.{same-move, same-state, same-marked, same-ways, same-tests, same-connects, same-closed, same-laid}
-use Rattle.verdict.specs.Labels.{Label, labelOf}
 use Rattle.meaning_laws.specs.Counting.{Gets}
 use Rattle.meaning_laws.specs.Below.{below, RightBelow, SaysBelow, until-labels}
 use Rattle.meaning_laws.specs.Stays.{in-plan}

@@ -9,10 +9,10 @@ use native.Mathlib.Decide.{decLt}
 use lib.Dec.{ltb}
 use lib.ListN.{length}
 use borrow.Author.Tests.{lt-ltb, le-ltb}
+use Rattle.laws.specs.Tests.{cond-by}
 use Rattle.items.specs.declared.LoopMark.{LoopMark}
 use Rattle.items.specs.declared.LoopMark.the-variants as mark
 use Rattle.items.specs.declared.Place.{Place}
-use Rattle.laws.specs.Tests.{cond-by}
 use Rattle.rules.specs.Rules.{markAt, isEndless}
 use Rattle.meaning.specs.Run.{Moment, Spot, Step, stretch, goesAgain, next, spot}
 use Rattle.meaning_laws.specs.Facts.{Laid}

@@ -6,6 +6,7 @@ use native.Mathlib.Omega.{arith}
 use lib.Dec.{lit<}
 use lib.IntN.{pos}
 use Rattle.laws.specs.All.{All, none, also}
+use Rattle.laws.specs.Members.{all-both}
 use Rattle.record.specs.declared.Content.the-variants.{Number}
 use Rattle.record.specs.Spelling.{space, digit, contentOf}
 use Rattle.record.specs.Spell.{numeral, token}
@@ -13,7 +14,6 @@ use Rattle.record.specs.Layout.{lineFeed}
 use Rattle.record_laws.specs.Digits.{numeral-by}
 use Rattle.record_laws.specs.Reading.{token-reads}
 use Rattle.answers.specs.declared.Told.{Told}
-use Rattle.laws.specs.Members.{all-both}
 use Rattle.output.specs.Line.{lineOf}
 
 -- ---- the digits of one number

@@ -1,4 +1,4 @@
--- Where a record has its letter, its fields and its line feed.
+-- Where a record has its letter, its fields and its line feed, and how a file is cut into records.
 use mathlib.Core.List.{List, [], _∷_}
 use Prim.Native.Nat.{ℕ, zero, suc, _+_, _*_}
 use lib.ListN.{take, drop, length}

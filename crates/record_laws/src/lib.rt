@@ -1,1 +1,1 @@
-// What the spelling rule of a field means: theorems, no code. They stand in specs/.
+// Laws of the field's spelling: no code. They stand in specs/; start at specs/Spelled.antt.

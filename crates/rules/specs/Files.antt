@@ -1,4 +1,5 @@
--- The case that a file spells, read off its bytes alone: cut into records, each field read by the spelling rule; row k of a kind is its item k.
+-- The case that a file spells, read off its bytes alone: cut into records, each field read by the spelling rule; row k of a kind is its item k. And
+-- the files whose records are all taken, or are refused at some record.
 use mathlib.Core.List.{List, [], _∷_, map, _++_}
 use mathlib.Core.Bool.{cond}
 use Prim.Native.Nat.{ℕ, _+_, _<_}

@@ -22,13 +22,13 @@ use Rattle.kinds.specs.declared.Rule.the-variants as rule
 use Rattle.kinds.specs.declared.Rule.the-variants.{Needed, Optional}
 use Rattle.kinds.specs.Kinds.{letterOf, rankOf, countOf}
 use Rattle.kinds.specs.Table.{shapeOf, ruleAt, rangeOf, natural}
-use Rattle.answers.specs.declared.Answer.{Answer}
-use Rattle.answers.specs.declared.Answer.the-variants.{Taken, NotARecord, NoLineFeed, NoSuchKind, Misspelled, Misfilled, OutOfRange, OutOfOrder, NoRoom, NotThere, Misplaced, WrongWayIn}
-use Rattle.answers.specs.Answers.{Before}
 use Rattle.items.specs.declared.LoopMark.{LoopMark}
 use Rattle.items.specs.declared.LoopMark.the-variants as mark
 use Rattle.items.specs.declared.Place.{Place}
 use Rattle.items.specs.Lists.{Items, listOf, countsOf, roomOf, noItem}
+use Rattle.answers.specs.declared.Answer.{Answer}
+use Rattle.answers.specs.declared.Answer.the-variants.{Taken, NotARecord, NoLineFeed, NoSuchKind, Misspelled, Misfilled, OutOfRange, OutOfOrder, NoRoom, NotThere, Misplaced, WrongWayIn}
+use Rattle.answers.specs.Answers.{Before}
 
 -- ---- a record
 

@@ -1,1 +1,1 @@
-// The rules of taking as meaning, and what every case that is taken has: theorems, no code. They stand in specs/.
+// The rules of taking, and the case that a file spells. Definitions, no code. They stand in specs/.

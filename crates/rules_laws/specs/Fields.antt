@@ -5,12 +5,12 @@ use mathlib.Core.Bool.{Bool, true, false, cond, _||_, true≢false}
 use Prim.Native.Nat.{ℕ, zero, suc, _+_, _-_, _%_, _≤_}
 use native.Mathlib.Nat.{mod-eq-of-lt}
 use native.Mathlib.Omega.{arith}
-use borrow.Author.Tests.{ltb-false}
 use lib.Dec.{lit≤}
 use lib.IntN.{ℤ, pos, negsuc}
 use lib.Signed.{ltZ, leZ}
 use lib.ListN.{length, getD, take, drop, replicate, List·getD-eq-default}
 use lib.Seq.{getD-drop}
+use borrow.Author.Tests.{ltb-false}
 use Rattle.laws.specs.Order.{zarith}
 use Rattle.laws.specs.Tests.{neither, tells-false}
 use Rattle.laws.specs.Tab.{tab, tab-again}
@@ -26,10 +26,10 @@ use Rattle.kinds.specs.declared.Rule.{Rule}
 use Rattle.kinds.specs.declared.Rule.the-variants as rule
 use Rattle.kinds.specs.Table as table
 use Rattle.kinds.specs.Table.{counters, natural, isNumber, rangeOf, neededIf, inFilled, shapeOf, ruleAt}
-use Rattle.checks.specs.Faults.{misspelled, missing, extra, outside, beyond}
 use Rattle.items.specs.Items.{itemOf, rowOf, byteOf, integerOf, shortOf, perCounter, refOf, termOf, markOf, stateOf, guardOf, moveOf, formOf, sentenceOf, placeOf, integer, number, blank, reference, termFields, markFields}
-use Rattle.rules_laws.specs.Tells.{tells-bad, tells-missing, tells-extra, tells-outside}
+use Rattle.checks.specs.Faults.{misspelled, missing, extra, outside, beyond}
 use Rattle.collector.specs.Sound.{shape, Fit}
+use Rattle.rules_laws.specs.Tells.{tells-bad, tells-missing, tells-extra, tells-outside}
 
 -- ---- ranges: a number of a range is in every wider one
 

@@ -17,22 +17,22 @@ use Rattle.kinds.specs.declared.Kind.the-variants.{State, Guard, Move, Sentence
 use Rattle.kinds.specs.declared.Shape.{Shape}
 use Rattle.kinds.specs.Kinds.{rankOf, countOf}
 use Rattle.kinds.specs.Table.{shapeOf, ruleAt, natural, isNumber}
-use Rattle.checks.specs.Faults.{outside}
-use Rattle.checks.specs.declared.Fault.the-variants as fault
+use Rattle.items.specs.Lists.{Items, listOf, countsOf, roomOf}
 use Rattle.answers.specs.declared.Answer.{Answer}
 use Rattle.answers.specs.declared.Answer.the-variants.{Taken, NotARecord, NoLineFeed, NoSuchKind, Misspelled, Misfilled, OutOfRange, OutOfOrder, NoRoom, NotThere, Misplaced, WrongWayIn}
 use Rattle.answers.specs.Answers.{numberOf, fieldOf, testOrder, turnOf, isTaken}
 use Rattle.answers.specs.Laws.{in-order}
+use Rattle.checks.specs.declared.Fault.the-variants as fault
+use Rattle.checks.specs.Faults.{outside}
 use Rattle.checks.specs.Input.{wrongForm, rangeAnswer, extraAnswer, missingAnswer, formAnswer, fieldsAnswer}
+use Rattle.rules.specs.Rules.{IsA, fieldsOf, contentAt, ruleFor, IsMissing, IsExtra, IsOutside, IsNotThere, HasForm, Lowest, Closed, Open, Applies, IsFirst}
 use Rattle.collector.specs.declared.Loops.{Loops}
 use Rattle.collector.specs.declared.Derived.{Derived}
 use Rattle.collector.specs.declared.Case.{Case}
-use Rattle.items.specs.Lists.{Items, listOf, countsOf, roomOf}
 use Rattle.collector.specs.Cases.{itemsOf, noLoops, loopsFrom}
 use Rattle.collector.specs.Taking.{isClosed, isOpen, isLong, wayAnswer, markAnswer, placeAnswer, layoutAnswer, thereAnswer, roomAnswer, lastRank, orderAnswer, recordAnswer, takenAs, takenBy, takenOf}
-use Rattle.rules.specs.Rules.{IsA, fieldsOf, contentAt, ruleFor, IsMissing, IsExtra, IsOutside, IsNotThere, HasForm, Lowest, Closed, Open, Applies, IsFirst}
-use Rattle.rules_laws.specs.Tells.{tells-blank, tells-number, tells-bad, tells-missing, tells-extra, tells-outside, tells-there, tells-form, tells-way}
 use Rattle.collector.specs.Sound.{Sound}
+use Rattle.rules_laws.specs.Tells.{tells-blank, tells-number, tells-bad, tells-missing, tells-extra, tells-outside, tells-there, tells-form, tells-way}
 use Rattle.rules_laws.specs.Held.{counted-of, counts-are, derived}
 use Rattle.rules_laws.specs.Loops.{closed-is, open-is}
 use Rattle.rules_laws.specs.Letters.{one-kind, by-head}

@@ -18,24 +18,24 @@ use Rattle.kinds.specs.declared.Kind.the-variants.{State, Guard, Move, Sentence
 use Rattle.kinds.specs.declared.Counts.{Counts}
 use Rattle.kinds.specs.Kinds.{countOf, countsBy, same, letterOf, rankOf}
 use Rattle.kinds.specs.Table.{shapeOf, natural, isNumber, isBlank}
-use Rattle.checks.specs.declared.Fault.{Fault}
-use Rattle.checks.specs.declared.Fault.the-variants as fault
+use Rattle.items.specs.Items.{Item, itemOf}
+use Rattle.items.specs.Lists.{Items, listOf, itemsBy, countsOf, roomOf, noItem}
 use Rattle.answers.specs.declared.Answer.{Answer}
 use Rattle.answers.specs.declared.Answer.the-variants.{Taken, Misspelled, Misfilled, OutOfRange, OutOfOrder, NoRoom, NotThere, Misplaced, WrongWayIn}
+use Rattle.answers.specs.Answers.{isTaken}
+use Rattle.checks.specs.declared.Fault.{Fault}
+use Rattle.checks.specs.declared.Fault.the-variants as fault
 use Rattle.checks.specs.declared.Head.{Head}
 use Rattle.checks.specs.declared.Head.the-variants.{Of, Refused}
 use Rattle.checks.specs.Faults.{faultAt, lowestFault}
 use Rattle.checks.specs.Input.{wrongForm, rangeAnswer, extraAnswer, missingAnswer, formAnswer, fieldsAnswer, headOf}
-use Rattle.items.specs.Items.{Item, itemOf}
+use Rattle.rules.specs.Rules.{IsA}
 use Rattle.collector.specs.declared.Case.{Case}
 use Rattle.collector.specs.declared.Loops.{Loops}
-use Rattle.items.specs.Lists.{Items, listOf, itemsBy, countsOf, roomOf, noItem}
 use Rattle.collector.specs.Cases.{changed, added, arraysOf, filled, caseBy, caseOf, itemsOf, noLoops, loopsAfter, loopsFrom, derivedOf, derivedAfter, oneMore, with, emptyCase}
-use Rattle.answers.specs.Answers.{isTaken}
 use Rattle.collector.specs.Taking.{takenOf, takenBy, takenAs, recordAnswer, lastRank, orderAnswer, roomAnswer, thereAnswer, layoutAnswer, placeAnswer, markAnswer, wayAnswer, isClosed, isOpen, isLong}
-use Rattle.rules_laws.specs.Letters.{one-kind, by-head}
-use Rattle.rules.specs.Rules.{IsA}
 use Rattle.collector.specs.Sound.{Sound, Fit, There}
+use Rattle.rules_laws.specs.Letters.{one-kind, by-head}
 use Rattle.rules_laws.specs.Loops.{loops-snoc}
 use Rattle.rules_laws.specs.Stages.{fault-none}
 use Rattle.rules_laws.specs.Tells.{tells-bad, tells-missing, tells-extra, tells-outside, tells-there}

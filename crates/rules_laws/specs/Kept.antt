@@ -7,11 +7,11 @@ use Prim.Native.Nat.{ℕ, zero, suc, _+_, _^_, _≤_, _<_}
 use native.Mathlib.Nat.{le-refl, pow-le-pow-right}
 use native.Mathlib.Omega.{arith}
 use native.Mathlib.Decide.{decLt}
-use borrow.Author.Tests.{ltb-false}
 use lib.Dec.{ltb, eqb, eqb·suc-zero}
 use lib.IntN.{pos}
 use lib.ListN.{length, getD, List·getD-append}
 use lib.Seq.{getD-at}
+use borrow.Author.Tests.{ltb-false}
 use Rattle.laws.specs.Tests.{neither}
 use Rattle.record.specs.declared.Content.{Content}
 use Rattle.record.specs.declared.Content.the-variants as content
@@ -24,20 +24,20 @@ use Rattle.kinds.specs.declared.Sort.the-variants as sort
 use Rattle.kinds.specs.declared.Rule.the-variants as rule
 use Rattle.kinds.specs.Kinds.{countOf}
 use Rattle.kinds.specs.Table.{natural, isNumber, isBlank, neededIf, inFilled, ruleAt, shapeOf}
-use Rattle.checks.specs.Faults.{outside}
 use Rattle.items.specs.declared.Ref.{Ref}
 use Rattle.items.specs.declared.Ref.the-variants as ref
 use Rattle.items.specs.declared.LoopMark.{LoopMark}
 use Rattle.items.specs.declared.LoopMark.the-variants as mark
 use Rattle.items.specs.declared.Place.{Place}
 use Rattle.items.specs.Items.{Item, itemOf, rowOf, reference}
+use Rattle.items.specs.Lists.{roomOf, noItem, listOf}
+use Rattle.answers.specs.Answers.{isTaken}
+use Rattle.checks.specs.Faults.{outside}
 use Rattle.collector.specs.declared.Loops.{Loops}
 use Rattle.collector.specs.declared.Derived.{Derived}
 use Rattle.collector.specs.declared.Case.{Case}
-use Rattle.items.specs.Lists.{roomOf, noItem, listOf}
 use Rattle.collector.specs.Cases.{itemsOf, oneMore, with, noLoops, loopsFrom, emptyCase}
 use Rattle.collector.specs.Taking.{isClosed, isOpen, isLong, takenOf}
-use Rattle.answers.specs.Answers.{isTaken}
 use Rattle.collector.specs.Sound.{Sound, Fit, There, reach, shape, LoopsApart}
 use Rattle.rules_laws.specs.Fields.{met, fields-again}
 use Rattle.rules_laws.specs.Held.{by-kind, count-more, count-other, counted, kept-counted, derived, same-kind, other-list, kept-with, empty-kept, empty-list, refused-same, Placed, IsTaken, taken-with}

@@ -15,11 +15,11 @@ use Rattle.kinds.specs.declared.Kind.the-variants as kind
 use Rattle.items.specs.declared.LoopMark.{LoopMark}
 use Rattle.items.specs.declared.LoopMark.the-variants as mark
 use Rattle.items.specs.declared.Place.{Place}
-use Rattle.collector.specs.declared.Loops.{Loops}
 use Rattle.items.specs.Lists.{Items, roomOf, noItem}
+use Rattle.rules.specs.Rules.{markAt, lengthOf, isEndless, endAt, Closed, Open}
+use Rattle.collector.specs.declared.Loops.{Loops}
 use Rattle.collector.specs.Cases.{noLoops, loopsAfter, loopsFrom}
 use Rattle.collector.specs.Taking.{isClosed, isOpen}
-use Rattle.rules.specs.Rules.{markAt, lengthOf, isEndless, endAt, Closed, Open}
 use Rattle.collector.specs.Sound.{LoopsApart}
 
 pub loops-snoc : (l : Loops) (n : ℕ) (ps : List Place) (p : Place) →

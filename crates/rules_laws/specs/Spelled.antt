@@ -15,13 +15,13 @@ use Rattle.kinds.specs.declared.Kind.the-variants.{State, Guard, Move, Sentence
 use Rattle.kinds.specs.declared.Counts.{Counts}
 use Rattle.kinds.specs.Kinds.{letterOf}
 use Rattle.items.specs.Items.{Item, itemOf, rowOf}
+use Rattle.items.specs.Lists.{listOf, itemsBy}
+use Rattle.answers.specs.Answers.{isTaken}
+use Rattle.rules.specs.Files.{rowsOf, spelledBy, itemCount}
 use Rattle.collector.specs.declared.Case.{Case}
 use Rattle.collector.specs.declared.Collected.{Collected}
-use Rattle.items.specs.Lists.{listOf, itemsBy}
 use Rattle.collector.specs.Cases.{itemsOf, with, emptyCase}
-use Rattle.answers.specs.Answers.{isTaken}
 use Rattle.collector.specs.Taking.{takenOf, collectedFrom, collectedOf}
-use Rattle.rules.specs.Files.{rowsOf, spelledBy, itemCount}
 use Rattle.rules_laws.specs.Fields.{fields-again}
 use Rattle.rules_laws.specs.Held.{Kept, IsTaken, by-kind, same-kind, other-list, kept-with, kept-counts, empty-kept, empty-list, taken-with}
 

@@ -22,15 +22,15 @@ use Rattle.kinds.specs.declared.Rule.{Rule}
 use Rattle.kinds.specs.declared.Rule.the-variants as rule
 use Rattle.kinds.specs.declared.Shape.{Shape}
 use Rattle.kinds.specs.Table.{rulesOf, ruleAt, counters, inFilled}
-use Rattle.checks.specs.declared.Fault.{Fault}
-use Rattle.checks.specs.declared.Fault.the-variants as fault
+use Rattle.items.specs.Lists.{Items}
 use Rattle.answers.specs.declared.Answer.{Answer}
 use Rattle.answers.specs.declared.Answer.the-variants.{Taken}
 use Rattle.answers.specs.Answers.{numberOf, fieldOf, testOrder, turnOf, isTaken}
-use Rattle.answers.specs.Laws.{in-order}
+use Rattle.answers.specs.Laws.{in-order, taken-is}
+use Rattle.checks.specs.declared.Fault.{Fault}
+use Rattle.checks.specs.declared.Fault.the-variants as fault
 use Rattle.checks.specs.Faults.{hasFault, faultAt, lowestFault}
 use Rattle.checks.specs.Input.{orElse}
-use Rattle.items.specs.Lists.{Items}
 use Rattle.rules.specs.Rules.{Lowest, Applies, IsFirst}
 
 -- ---- the lowest field
@@ -148,7 +148,7 @@ module _ (x : Items) (bs : List ℕ) where
   -- what applies is no Taken
   pub refuses : (a : Answer) → Applies x bs a → isTaken a ≡ false
   unfolding lowest
-  refuses a w = ne-eqb (numberOf a) 0 (λ e. renumbered a 0 (ap turnOf e) w)
+  refuses a w = taken-is a ∙ ne-eqb (numberOf a) 0 (λ e. renumbered a 0 (ap turnOf e) w)
 
   -- a test that tells whether P, by which a is answered
   pub tested : (n : ℕ) (t : Bool) (a : Answer) {b : Answer} {P : Type 0} → Tells t P → (P → IsFirst x bs a) → ((P → ⊥) → Ends n b) → Ends n (cond t a b)

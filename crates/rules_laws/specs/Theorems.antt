@@ -1,5 +1,5 @@
--- What is proved of taking records: start here. The rules are in Rules.antt, the invariant in Sound.antt, the case that a file spells in
--- Files.antt; how fields are spelled in the crate spelling; `takenOf` and `runOf`, with which the code's promises are equations, in the crate plan. Assumes nothing.
+-- What is proved of taking records: start here. The rules and the case that a file spells are in the crate rules; the invariant, and `takenOf` and
+-- `collectedOf`, with which the code's promises are equations, in the crate collector; how fields are spelled in record_laws. Assumes nothing.
 use mathlib.Core.Path.{_≡_, refl, _∙_, ap}
 use mathlib.Core.Logic.{_⊎_}
 use mathlib.Core.List.{List, [], _∷_, _++_}
@@ -14,15 +14,15 @@ use Rattle.record.specs.Layout.{width, recordOf, cut}
 use Rattle.record_laws.specs.Spelled.{one-spelling, spellable-range}
 use Rattle.kinds.specs.declared.Kind.{Kind}
 use Rattle.kinds.specs.declared.Sort.the-variants.{Bound}
-use Rattle.answers.specs.declared.Answer.{Answer}
 use Rattle.items.specs.Items.{itemOf, rowOf}
+use Rattle.items.specs.Lists.{listOf}
+use Rattle.answers.specs.declared.Answer.{Answer}
+use Rattle.answers.specs.Answers.{isTaken}
+use Rattle.rules.specs.Rules.{IsA, InRange, Applies, IsFirst}
 use Rattle.collector.specs.declared.Case.{Case}
 use Rattle.collector.specs.declared.Collected.{Collected}
 use Rattle.collector.specs.Cases.{emptyCase, caseOf, itemsOf}
-use Rattle.items.specs.Lists.{listOf}
-use Rattle.answers.specs.Answers.{isTaken}
 use Rattle.collector.specs.Taking.{takenOf, collectedFrom, collectedOf}
-use Rattle.rules.specs.Rules.{IsA, InRange, Applies, IsFirst}
 use Rattle.collector.specs.Sound.{Sound}
 use Rattle.rules_laws.specs.Fields.{fields-again}
 use Rattle.rules_laws.specs.Held.{same-kind, other-kind, refused-same, taken-with}

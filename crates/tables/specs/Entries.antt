@@ -11,11 +11,11 @@ use Rattle.laws.specs.Sizes.{size}
 use Rattle.laws.specs.Tab.{tab, length-tab, at-tab, Filled, fill-more}
 use Rattle.kinds.specs.declared.Kind.the-variants as kind
 use Rattle.kinds.specs.Table.{counters}
+use Rattle.counters.specs.declared.Counters.{Counters}
+use Rattle.counters.specs.Vectors.{valueAt, vec, vec-same, at-is}
 use Rattle.items.specs.declared.Place.{Place}
 use Rattle.items.specs.Lists.{roomOf}
 use Rattle.verdict.specs.Rounds.{firstOf}
-use Rattle.counters.specs.declared.Counters.{Counters}
-use Rattle.counters.specs.Vectors.{valueAt, vec, vec-same, at-is}
 use Rattle.tables.specs.declared.Firsts.{Firsts}
 use Rattle.tables.specs.declared.Table.{Table}
 use Rattle.tables.specs.Tables.{vecOf, noValues, firstsOf, valuesOf, tableOf}

@@ -8,16 +8,16 @@ use Rattle.laws.specs.Arithmetic.{once-more}
 use Rattle.laws.specs.Sizes.{size, within-size}
 use Rattle.kinds.specs.declared.Kind.the-variants as kind
 use Rattle.kinds.specs.Table.{counters}
+use Rattle.counters.specs.declared.Counters.{Counters}
+use Rattle.counters.specs.Vectors.{valueAt, vec}
 use Rattle.items.specs.declared.Ref.{Ref}
 use Rattle.items.specs.declared.Move.{Move}
+use Rattle.items.specs.Lists.{roomOf}
 use Rattle.collector.specs.declared.Case.{Case}
 use Rattle.collector.specs.Cases.{itemsOf}
-use Rattle.items.specs.Lists.{roomOf}
 use Rattle.collector.specs.Sound.{Sound}
 use Rattle.meaning.specs.Run.{moveAt, update}
 use Rattle.meaning_laws.specs.Given.{facts}
-use Rattle.counters.specs.declared.Counters.{Counters}
-use Rattle.counters.specs.Vectors.{valueAt, vec}
 use Rattle.tables.specs.Tables.{vecOf, slotOf}
 use Rattle.tables.specs.Reads.{move-is, adds-none}
 use Rattle.tables.specs.Entries.{Has, has, values-same, sums-small, sums-are}

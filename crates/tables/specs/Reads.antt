@@ -14,8 +14,8 @@ use Rattle.items.specs.declared.Ref.the-variants as ref
 use Rattle.items.specs.declared.Guard.{Guard}
 use Rattle.items.specs.declared.Move.{Move}
 use Rattle.items.specs.Items.{Item}
-use Rattle.collector.specs.declared.Case.{Case}
 use Rattle.items.specs.Lists.{listOf, roomOf, noItem}
+use Rattle.collector.specs.declared.Case.{Case}
 use Rattle.collector.specs.Cases.{arraysOf, itemsOf}
 use Rattle.collector.specs.Sound.{Sound}
 use Rattle.rules_laws.specs.Held.{counted, padded, long}

@@ -6,9 +6,9 @@ use native.Mathlib.Omega.{arith}
 use lib.ListN.{getD}
 use Rattle.kinds.specs.declared.Kind.the-variants as kind
 use Rattle.items.specs.declared.Place.{Place}
+use Rattle.items.specs.Lists.{roomOf, noItem}
 use Rattle.collector.specs.declared.Case.{Case}
 use Rattle.collector.specs.Cases.{itemsOf}
-use Rattle.items.specs.Lists.{roomOf, noItem}
 use Rattle.collector.specs.Sound.{Sound}
 use Rattle.meaning.specs.Run.{stretch}
 use Rattle.meaning_laws.specs.Given.{facts}

@@ -5,6 +5,8 @@ use lib.IntN.{ℤ, pos}
 use lib.ListN.{length, replicate}
 use Rattle.laws.specs.Tab.{tab}
 use Rattle.kinds.specs.declared.Kind.the-variants as kind
+use Rattle.counters.specs.declared.Counters.{Counters}
+use Rattle.counters.specs.Vectors.{vec}
 use Rattle.items.specs.declared.Ref.{Ref}
 use Rattle.items.specs.declared.Ref.the-variants as ref
 use Rattle.items.specs.declared.Place.{Place}
@@ -12,8 +14,6 @@ use Rattle.items.specs.Lists.{Items, roomOf}
 use Rattle.meaning.specs.Judged.{startOf}
 use Rattle.verdict.specs.Rounds.{firstOf}
 use Rattle.verdict.specs.Forward.{ways, drift, base}
-use Rattle.counters.specs.declared.Counters.{Counters}
-use Rattle.counters.specs.Vectors.{vec}
 use Rattle.tables.specs.declared.Firsts.{Firsts}
 use Rattle.tables.specs.declared.Table.{Table}
 use Rattle.tables.specs.declared.Tables.{Tables}

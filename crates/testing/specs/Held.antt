@@ -2,8 +2,8 @@
 use Prim.Native.Nat.{ℕ, _%_}
 use lib.ListN.{getD}
 use Rattle.kinds.specs.declared.Kind.the-variants as kind
-use Rattle.collector.specs.declared.Case.{Case}
 use Rattle.items.specs.Lists.{noItem, roomOf}
+use Rattle.collector.specs.declared.Case.{Case}
 
 -- the marks of place i, counted round
 abbrev pub marksAt : Case → ℕ → ℕ

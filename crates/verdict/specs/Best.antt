@@ -7,12 +7,12 @@ use lib.IntN.{ℤ, pos, _+ℤ_, _*ℤ_}
 use lib.Signed.{leZ}
 use Rattle.items.specs.declared.Place.{Place}
 use Rattle.meaning.specs.Run.{stretch}
-use Rattle.verdict.specs.Labels.{Label}
 use Rattle.verdict.specs.declared.Rounds.{Rounds}
 use Rattle.verdict.specs.declared.Rounds.the-variants as rounds
+use Rattle.verdict.specs.Labels.{Label}
 use Rattle.verdict.specs.Rounds.{firstOf, loopOf, isLast, roundsOf}
 
--- the best sum that an until can reach from a moment: none, a number, or one as great as you like (the code has a number for it: crate best)
+-- the best sum that an until can reach from a moment: none, a number, or one as great as you like (the code has a number for it: crate maxplus)
 pub data Best : Type 0 where
   None : Best
   Sum : ℤ → Best

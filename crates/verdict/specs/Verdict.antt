@@ -13,19 +13,19 @@ use Rattle.items.specs.declared.Guard.{Guard}
 use Rattle.items.specs.declared.Form.{Form}
 use Rattle.items.specs.declared.Form.the-variants as form
 use Rattle.items.specs.Lists.{Items, noItem}
-use Rattle.collector.specs.Cases.{noLoops, loopsFrom}
-use Rattle.collector.specs.Taking.{isClosed}
-use Rattle.rules.specs.Files.{itemCount}
 use Rattle.answers.specs.declared.Judgement.{Judgement}
 use Rattle.answers.specs.declared.Judgement.the-variants.{Accepted, Unfinished, WrongStart, Unconnected, GuardFails, WrongMark, RootUnmarked}
+use Rattle.rules.specs.Files.{itemCount}
+use Rattle.collector.specs.Cases.{noLoops, loopsFrom}
+use Rattle.collector.specs.Taking.{isClosed}
 use Rattle.meaning.specs.Run.{Way, guardAt, moveNo, moveBy}
 use Rattle.meaning.specs.Truth.{bit}
 use Rattle.meaning.specs.Judged.{stateAt, waysOf, placeBefore, Test, testsOf, Mark, marksOf, marked, root}
-use Rattle.verdict.specs.Labels.{labelOf}
 use Rattle.verdict.specs.declared.Throughout.{Throughout}
 use Rattle.verdict.specs.declared.Throughout.the-variants.{Always, Never, Changes}
 use Rattle.verdict.specs.declared.Rounds.{Rounds}
 use Rattle.verdict.specs.declared.Rounds.the-variants as rounds
+use Rattle.verdict.specs.Labels.{labelOf}
 use Rattle.verdict.specs.Rounds.{firstOf, loopOf, isLast, roundsOf, roundsBy, flag, agree, through}
 use Rattle.verdict.specs.Forward.{base, drift}
 use Rattle.verdict.specs.Best.{Front, isReached, front}

@@ -1,5 +1,4 @@
-// The answer of a judgement as a computation whose cost doesn't depend on the number of rounds, and the theorem that it is the one answer that the
-// meaning leaves. Definitions and theorems stand in specs/; here are their types.
+// The answer of a judgement as a computation whose cost doesn't depend on the number of rounds. Definitions stand in specs/; here are their types.
 
 // Whether something is true in every round of a place, in none, or in some only.
 pub enum Throughout {

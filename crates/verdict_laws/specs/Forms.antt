@@ -9,7 +9,9 @@ use native.Mathlib.Decide.{decLt}
 use lib.Dec.{eqb, leb}
 use lib.ListN.{length, getD}
 use borrow.Author.Tests.{le-ltb, lt-ltb, lt-leb, le-leb, eqb-true, eqb-false}
+use Rattle.laws.specs.Tests.{cond-by, tells-and, tells-not}
 use Rattle.kinds.specs.declared.Kind.the-variants as kind
+use Rattle.counters.specs.Sum.{Valuation}
 use Rattle.items.specs.declared.LoopMark.{LoopMark}
 use Rattle.items.specs.declared.LoopMark.the-variants as mark
 use Rattle.items.specs.declared.Form.{Form}
@@ -17,19 +19,17 @@ use Rattle.items.specs.declared.Form.the-variants as form
 use Rattle.items.specs.declared.Place.{Place}
 use Rattle.items.specs.Lists.{Items, noItem}
 use Rattle.rules.specs.Rules.{markAt, Closed}
-use Rattle.laws.specs.Tests.{cond-by, tells-and, tells-not}
-use Rattle.counters.specs.Sum.{Valuation}
 use Rattle.meaning.specs.Run.{Moment, here, stretch, goesAgain, spot, guardAt}
 use Rattle.meaning.specs.Truth.{Says, bit}
 use Rattle.meaning.specs.Judged.{stateAt, marked, traceOf}
 use Rattle.meaning_laws.specs.Facts.{Laid, Facts, Refers}
 use Rattle.meaning_laws.specs.Stays.{next-by}
-use Rattle.verdict.specs.Labels.{labelOf}
 use Rattle.meaning_laws.specs.Below.{RightBelow, SaysBelow, says-below, until-labels}
 use Rattle.verdict.specs.declared.Throughout.{Throughout}
-use Rattle.verdict_laws.specs.Tells.{TellsHow, tells-always, tells-never, agree-tells}
+use Rattle.verdict.specs.Labels.{labelOf}
 use Rattle.verdict.specs.Rounds.{firstOf, loopOf, isLast, roundsOf, In, flag}
 use Rattle.verdict.specs.Verdict.{nextBy, formThrough}
+use Rattle.verdict_laws.specs.Tells.{TellsHow, tells-always, tells-never, agree-tells}
 use Rattle.verdict_laws.specs.Steps.{in-zero, first-in, first-is, round-in, visit}
 use Rattle.verdict_laws.specs.Kept.{guard-tells}
 use Rattle.verdict_laws.specs.Until.{until-tells}

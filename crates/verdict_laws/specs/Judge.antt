@@ -9,22 +9,22 @@ use native.Mathlib.Decide.{decLt}
 use lib.Dec.{eqb, ltb}
 use lib.ListN.{length, getD}
 use borrow.Author.Tests.{eqb-true, eq-eqb}
+use Rattle.laws.specs.Tests.{tells-and, tells-lt, tells-not}
+use Rattle.laws.specs.All.{All, from, gather}
+use Rattle.laws.specs.Members.{Has, all-has, has-all, has-below, gather-has, all-pairs}
 use Rattle.kinds.specs.declared.Kind.the-variants as kind
+use Rattle.counters.specs.Sum.{Valuation}
 use Rattle.items.specs.declared.LoopMark.{LoopMark}
 use Rattle.items.specs.declared.LoopMark.the-variants as mark
 use Rattle.items.specs.declared.Ref.{Ref}
 use Rattle.items.specs.declared.Ref.the-variants as ref
-use Rattle.collector.specs.declared.Case.{Case}
 use Rattle.items.specs.Lists.{Items, noItem}
+use Rattle.rules.specs.Rules.{Closed}
+use Rattle.collector.specs.declared.Case.{Case}
 use Rattle.collector.specs.Cases.{itemsOf, noLoops, loopsFrom}
 use Rattle.collector.specs.Taking.{isClosed}
-use Rattle.rules.specs.Rules.{Closed}
 use Rattle.collector.specs.Sound.{Sound}
 use Rattle.rules_laws.specs.Loops.{closed-is}
-use Rattle.laws.specs.Tests.{tells-and, tells-lt, tells-not}
-use Rattle.laws.specs.All.{All, from, gather}
-use Rattle.laws.specs.Members.{Has, all-has, has-all, has-below, gather-has, all-pairs}
-use Rattle.counters.specs.Sum.{Valuation}
 use Rattle.meaning.specs.Run.{Moment, Way, here, spot, placeAt, backOf, moveNo, moveBy, guardsOf}
 use Rattle.meaning.specs.Judged.{stateAt, wayIn, wayBack, waysInto, waysOf, placeBefore, Connects, Test, testsOf, Passes, Fails, Mark, marksOf, marked, root, Right, Wrong, Finished, Judged}
 use Rattle.meaning_laws.specs.Facts.{Facts}
@@ -33,8 +33,8 @@ use Rattle.meaning_laws.specs.Stays.{in-plan}
 use Rattle.meaning_laws.specs.Below.{RightBelow}
 use Rattle.verdict.specs.declared.Throughout.{Throughout}
 use Rattle.verdict.specs.declared.Throughout.the-variants.{Always, Never, Changes}
-use Rattle.verdict_laws.specs.Tells.{TellsHow}
 use Rattle.verdict.specs.Verdict.{Found, nowhere, at, connects, testThrough, formThrough, isAlways, isNever, passes, markRight, finished, refNumber, judgementBy, verdict, firstNot}
+use Rattle.verdict_laws.specs.Tells.{TellsHow}
 use Rattle.verdict_laws.specs.Search.{Finds, Sorts, Sorted, end, told-all, told-both, finds, first-has}
 use Rattle.verdict_laws.specs.Kept.{test-always, test-fails}
 use Rattle.verdict_laws.specs.Forms.{form-tells}

@@ -9,15 +9,15 @@ use native.Mathlib.Omega.{arith}
 use lib.IntN.{ℤ, pos, _+ℤ_, _-ℤ_, _*ℤ_, +ℤ-assoc, +ℤ-comm, +ℤ-idr, +ℤ-invr}
 use lib.ListN.{length}
 use borrow.Author.Tests.{ltb-false, lt-leb, le-leb}
+use Rattle.laws.specs.Arithmetic.{left-comm}
+use Rattle.laws.specs.Members.{Has}
+use Rattle.counters.specs.Sum.{Valuation, sum}
 use Rattle.items.specs.declared.LoopMark.{LoopMark}
 use Rattle.items.specs.declared.LoopMark.the-variants as mark
 use Rattle.items.specs.declared.Guard.{Guard}
 use Rattle.items.specs.declared.Place.{Place}
 use Rattle.items.specs.Lists.{Items}
 use Rattle.rules.specs.Rules.{markAt, Closed}
-use Rattle.laws.specs.Arithmetic.{left-comm}
-use Rattle.laws.specs.Members.{Has}
-use Rattle.counters.specs.Sum.{Valuation, sum}
 use Rattle.meaning.specs.Run.{Moment, Way, here, stretch, goesAgain, spot, wayTaken, moveBy, update, countersAt, Meets, guardAt}
 use Rattle.meaning.specs.Judged.{waysOf, Test, Passes, Fails}
 use Rattle.meaning_laws.specs.Facts.{Laid, Facts}

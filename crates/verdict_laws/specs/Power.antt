@@ -11,8 +11,8 @@ use lib.Signed.{_≤ℤ_, leZ}
 use Rattle.laws.specs.Order.{up, down, le-true}
 use Rattle.laws.specs.Arithmetic.{le-out, le-in, eq-in, le-or, add-rel, neg-rel}
 use Rattle.laws.specs.Tests.{tells-or}
-use Rattle.verdict.specs.Labels.{Label}
 use Rattle.meaning_laws.specs.Between.{OneWay}
+use Rattle.verdict.specs.Labels.{Label}
 use Rattle.verdict.specs.Best as best
 use Rattle.verdict.specs.Best.{Best, isReached, plus, greater, onward, step, chain, wholeSum, positive, power, limit}
 

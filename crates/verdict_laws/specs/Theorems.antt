@@ -2,12 +2,12 @@
 use mathlib.Core.Path.{_≡_}
 use mathlib.Core.Logic.{_↔_}
 use Rattle.counters.specs.Sum.{Valuation}
+use Rattle.answers.specs.declared.Judgement.{Judgement}
+use Rattle.answers.specs.Answers.{numbersOf}
 use Rattle.collector.specs.declared.Case.{Case}
 use Rattle.collector.specs.Cases.{itemsOf}
 use Rattle.collector.specs.Sound.{Sound}
-use Rattle.answers.specs.declared.Judgement.{Judgement}
 use Rattle.meaning.specs.Judged.{IsAccepted, Judged}
-use Rattle.answers.specs.Answers.{numbersOf}
 use Rattle.meaning_laws.specs.Theorems.{one-answer, zero-accepts}
 use Rattle.verdict.specs.Verdict.{verdict}
 use Rattle.verdict_laws.specs.Judge as judge

@@ -19,19 +19,19 @@ use Rattle.items.specs.Lists.{Items}
 use Rattle.rules.specs.Rules.{markAt, Closed}
 use Rattle.meaning.specs.Run.{Moment, Spot, Step, here, stretch, goesAgain, next, spot}
 use Rattle.meaning_laws.specs.Facts.{Laid}
-use Rattle.verdict.specs.Labels.{Label}
 use Rattle.meaning_laws.specs.Counting.{total, Gets, splice}
 use Rattle.meaning_laws.specs.Walk.{at, next-on, next-back, next-out}
 use Rattle.meaning_laws.specs.Stays.{in-plan}
 use Rattle.meaning_laws.specs.Between.{later, one-way}
 use Rattle.verdict.specs.declared.Rounds.{Rounds}
 use Rattle.verdict.specs.declared.Rounds.the-variants as rounds
+use Rattle.verdict.specs.Labels.{Label}
 use Rattle.verdict.specs.Best as best
 use Rattle.verdict.specs.Rounds.{firstOf, isLast, roundsOf, In}
 use Rattle.verdict.specs.Forward.{repeats}
 use Rattle.verdict.specs.Best.{Best, Front, isReached, step, chain, wholeSum, limit, onFirst, onLast, front}
-use Rattle.verdict_laws.specs.Tells.{TellsHow, agree-tells}
 use Rattle.verdict.specs.Verdict.{untilThrough}
+use Rattle.verdict_laws.specs.Tells.{TellsHow, agree-tells}
 use Rattle.verdict_laws.specs.Steps.{in-zero, first-le, first-in, first-on, first-out, first-is, round-in, visit}
 use Rattle.verdict_laws.specs.Power.{laps, power-is, laps-one-way, step-at, limit-reached, laps-limit}
 

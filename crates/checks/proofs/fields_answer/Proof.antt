@@ -1,4 +1,4 @@
--- `faults::fields_answer` meets its contract: one lemma for each test says what is answered past it. Assumes nothing.
+-- `checks::fields_answer` meets its contract: one lemma for each test says what is answered past it. Assumes nothing.
 use mathlib.Core.Path.{_≡_, _∙_, sym}
 use borrow.Author.Needs.{needs}
 use borrow.Author.Tests.{le-leb, lt-leb}

@@ -1,4 +1,4 @@
--- `faults::fits` meets its contract. The loop's invariant: each field passed is right. The measure is the fields left. Assumes nothing.
+-- `checks::fits` meets its contract. The loop's invariant: each field passed is right. The measure is the fields left. Assumes nothing.
 use mathlib.Core.Path.{_≡_, _∙_, sym, ap}
 use mathlib.Core.Bool.{not}
 use Prim.Native.Nat.{_+_, _-_, _<_}

@@ -1,4 +1,4 @@
--- `faults::has_bit_from` meets its contract: a shift by n leaves something exactly of the numbers from 2 ^ n on. Assumes nothing.
+-- `checks::has_bit_from` meets its contract: a shift by n leaves something exactly of the numbers from 2 ^ n on. Assumes nothing.
 use Prim.Native.Nat.{_^_, _<_}
 use native.Mathlib.Omega.{arith}
 use borrow.Author.Needs.{needs}

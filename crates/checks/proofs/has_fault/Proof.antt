@@ -1,4 +1,4 @@
--- `faults::has_fault` meets its contract. Assumes nothing.
+-- `checks::has_fault` meets its contract. Assumes nothing.
 use borrow.Author.Needs.{needs}
 use Rattle.checks.proofs.has_fault.Statement.{statement}
 use Rattle.checks.proofs.has_fault.Tie as tie

@@ -1,4 +1,4 @@
--- `faults::has_wrong_form` meets its contract. Assumes nothing.
+-- `checks::has_wrong_form` meets its contract. Assumes nothing.
 use borrow.Author.Needs.{needs}
 use Rattle.checks.proofs.has_wrong_form.Statement.{statement}
 use Rattle.checks.proofs.has_wrong_form.Tie as tie

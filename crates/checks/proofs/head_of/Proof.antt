@@ -1,4 +1,4 @@
--- `faults::head_of` meets its contract: one lemma for each test says what the head is past it. Assumes nothing.
+-- `checks::head_of` meets its contract: one lemma for each test says what the head is past it. Assumes nothing.
 use mathlib.Core.Path.{_≡_, _∙_, sym}
 use denote.Ref.{now}
 use borrow.Author.Needs.{needs}

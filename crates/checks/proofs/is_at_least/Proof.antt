@@ -1,4 +1,4 @@
--- `faults::is_at_least` meets its contract: a number below 0 is not m or more, and any other is compared as a natural number. Assumes nothing.
+-- `checks::is_at_least` meets its contract: a number below 0 is not m or more, and any other is compared as a natural number. Assumes nothing.
 use mir.Syntax.{w32}
 use mir.Val.{SFits}
 use mir.Facts.{toZ-ofZ, fits-natAbs}

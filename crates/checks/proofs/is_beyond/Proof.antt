@@ -1,4 +1,4 @@
--- `faults::is_beyond` meets its contract. Assumes nothing.
+-- `checks::is_beyond` meets its contract. Assumes nothing.
 use mir.Syntax.{w32}
 use mir.Val.{SFits}
 use mir.Facts.{toZ-ofZ}

@@ -1,4 +1,4 @@
--- `faults::is_dangling` meets its contract. Assumes nothing.
+-- `checks::is_dangling` meets its contract. Assumes nothing.
 use borrow.Author.Needs.{needs}
 use Rattle.checks.proofs.is_dangling.Statement.{statement}
 use Rattle.checks.proofs.is_dangling.Tie as tie

@@ -1,4 +1,4 @@
--- `faults::is_extra` meets its contract. Assumes nothing.
+-- `checks::is_extra` meets its contract. Assumes nothing.
 use borrow.Author.Needs.{needs}
 use Rattle.checks.proofs.is_extra.Statement.{statement}
 use Rattle.checks.proofs.is_extra.Tie as tie

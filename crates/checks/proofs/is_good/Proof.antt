@@ -1,4 +1,4 @@
--- `faults::is_good` meets its contract. Assumes nothing.
+-- `checks::is_good` meets its contract. Assumes nothing.
 use mathlib.Core.Path.{_≡_, sym}
 use borrow.Author.Needs.{needs}
 use Rattle.kinds.specs.Table.{rangeOf}

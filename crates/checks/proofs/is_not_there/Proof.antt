@@ -1,4 +1,4 @@
--- `faults::is_not_there` meets its contract. Assumes nothing.
+-- `checks::is_not_there` meets its contract. Assumes nothing.
 use borrow.Author.Needs.{needs}
 use Rattle.checks.proofs.is_not_there.Statement.{statement}
 use Rattle.checks.proofs.is_not_there.Tie as tie

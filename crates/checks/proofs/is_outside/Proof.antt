@@ -1,4 +1,4 @@
--- `faults::is_outside` meets its contract. Assumes nothing.
+-- `checks::is_outside` meets its contract. Assumes nothing.
 use borrow.Author.Needs.{needs}
 use Rattle.checks.proofs.is_outside.Statement.{statement}
 use Rattle.checks.proofs.is_outside.Tie as tie

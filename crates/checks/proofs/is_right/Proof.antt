@@ -1,4 +1,4 @@
--- `faults::is_right` meets its contract. Assumes nothing.
+-- `checks::is_right` meets its contract. Assumes nothing.
 use mathlib.Core.Path.{sym}
 use borrow.Author.Needs.{needs}
 use Rattle.checks.proofs.is_right.Statement.{statement}

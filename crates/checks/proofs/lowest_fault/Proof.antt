@@ -1,4 +1,4 @@
--- `faults::lowest_fault` meets its contract. The loop's invariant: no field passed has the fault. The measure is the fields left. Assumes nothing.
+-- `checks::lowest_fault` meets its contract. The loop's invariant: no field passed has the fault. The measure is the fields left. Assumes nothing.
 use mathlib.Core.Path.{_≡_, _∙_, sym}
 use Prim.Native.Nat.{_+_, _-_, _<_}
 use native.Mathlib.Omega.{arith}

@@ -1,4 +1,4 @@
--- `line::line_of` meets its contract: the parts are put into an empty line one after the other. Assumes nothing.
+-- `output::line_of` meets its contract: the parts are put into an empty line one after the other. Assumes nothing.
 use native.Mathlib.Omega.{arith}
 use Rattle.output.specs.Line.{holding}
 use Rattle.output.proofs.Laws.{room, line-parts}

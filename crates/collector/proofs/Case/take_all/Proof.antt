@@ -80,7 +80,7 @@ stored-so c =
     (λ w. w .4 ∙ keep kind.Move _ (w .2 .ensures) (w .1 .given .1))
     (⊎-elim
     (λ w. w .4 ∙ keep kind.Sentence _ (w .2 .ensures) (w .1 .given .1))
-    (λ w. w .5 ∙ ap (placed b (w .2 .result)) (w .4 .ensures) ∙ keep kind.Place _ (w .2 .ensures) (w .1 .given .1)))))
+    (λ w. w .6 ∙ ap (placed b (w .2 .result)) (w .5 .ensures) ∙ keep kind.Place _ (w .2 .ensures) (w .1 .given .1)))))
     (c .match2 .came)
 
 loop-holds : tie.Need-loop-holds Inv-loop μ-loop
@@ -147,8 +147,8 @@ enum-told-2 c = search needs
 state-of-requires : tie.Need-state-of-requires Inv-loop μ-loop
 state-of-requires c κs = search needs
 
-mul-t33 : tie.Need-mul-t33 Inv-loop μ-loop
-mul-t33 c = omega (arith, room (c .before .before .before) kind.State (c .before .enum-told2 .given .1))
+mul-t34 : tie.Need-mul-t34 Inv-loop μ-loop
+mul-t34 c = omega (arith, room (c .before .before .before) kind.State (c .before .enum-told2 .given .1))
 
 element-set-from-self : tie.Need-element-set-from-self Inv-loop μ-loop
 element-set-from-self c = omega (arith, room (c .before .before .before) kind.State (c .before .enum-told2 .given .1))
@@ -162,8 +162,8 @@ enum-told-3 c = search needs
 guard-of-requires : tie.Need-guard-of-requires Inv-loop μ-loop
 guard-of-requires c κs = search needs
 
-mul-t37 : tie.Need-mul-t37 Inv-loop μ-loop
-mul-t37 c = omega (arith, room (c .before .before .before) kind.Guard (c .before .enum-told3 .given .1))
+mul-t38 : tie.Need-mul-t38 Inv-loop μ-loop
+mul-t38 c = omega (arith, room (c .before .before .before) kind.Guard (c .before .enum-told3 .given .1))
 
 element-set-from-self-2 : tie.Need-element-set-from-self-2 Inv-loop μ-loop
 element-set-from-self-2 c = omega (arith, room (c .before .before .before) kind.Guard (c .before .enum-told3 .given .1))
@@ -177,8 +177,8 @@ enum-told-4 c = search needs
 move-of-requires : tie.Need-move-of-requires Inv-loop μ-loop
 move-of-requires c κs = search needs
 
-mul-t41 : tie.Need-mul-t41 Inv-loop μ-loop
-mul-t41 c = omega (arith, room (c .before .before .before) kind.Move (c .before .enum-told4 .given .1))
+mul-t42 : tie.Need-mul-t42 Inv-loop μ-loop
+mul-t42 c = omega (arith, room (c .before .before .before) kind.Move (c .before .enum-told4 .given .1))
 
 element-set-from-self-3 : tie.Need-element-set-from-self-3 Inv-loop μ-loop
 element-set-from-self-3 c = omega (arith, room (c .before .before .before) kind.Move (c .before .enum-told4 .given .1))
@@ -192,8 +192,8 @@ enum-told-5 c = search needs
 sentence-of-requires : tie.Need-sentence-of-requires Inv-loop μ-loop
 sentence-of-requires c κs = search needs
 
-mul-t45 : tie.Need-mul-t45 Inv-loop μ-loop
-mul-t45 c = omega (arith, room (c .before .before .before) kind.Sentence (c .before .enum-told5 .given .1))
+mul-t46 : tie.Need-mul-t46 Inv-loop μ-loop
+mul-t46 c = omega (arith, room (c .before .before .before) kind.Sentence (c .before .enum-told5 .given .1))
 
 element-set-from-self-4 : tie.Need-element-set-from-self-4 Inv-loop μ-loop
 element-set-from-self-4 c = omega (arith, room (c .before .before .before) kind.Sentence (c .before .enum-told5 .given .1))
@@ -217,7 +217,7 @@ add-self-5 : tie.Need-add-self-5 Inv-loop μ-loop
 add-self-5 c = omega (arith, room (c .before .before .before) kind.Place (c .before .enum-told6 .given .1))
 
 after-requires : tie.Need-after-requires Inv-loop μ-loop
-after-requires c κs = omega (arith, room (c .before .before .before .before) kind.Place (c .before .before .enum-told6 .given .1))
+after-requires c κs = omega (arith, room (c .before .before .before .before .before) kind.Place (c .before .before .before .enum-told6 .given .1))
 
 returns-2 : tie.Need-returns-2 Inv-loop μ-loop
 returns-2 c = sym (turned (c .before) false (c .if1 .left))
@@ -276,22 +276,22 @@ take-all-spec =
     is-taken-requires
     enum-told-2
     state-of-requires
-    mul-t33
+    mul-t34
     element-set-from-self
     add-self
     enum-told-3
     guard-of-requires
-    mul-t37
+    mul-t38
     element-set-from-self-2
     add-self-2
     enum-told-4
     move-of-requires
-    mul-t41
+    mul-t42
     element-set-from-self-3
     add-self-3
     enum-told-5
     sentence-of-requires
-    mul-t45
+    mul-t46
     element-set-from-self-4
     add-self-4
     enum-told-6

@@ -1,4 +1,4 @@
--- `line::Line::with_number` meets its contract: one digit, or those before the last and the last. The measure is the number. Assumes nothing.
+-- `output::Line::with_number` meets its contract: one digit, or those before the last and the last. The measure is the number. Assumes nothing.
 use mathlib.Core.Path.{_≡_, _∙_, ap}
 use mathlib.Core.List.{[], _∷_}
 use Prim.Native.Nat.{ℕ, _+_, _/_, _%_, _≤_, _<_}
