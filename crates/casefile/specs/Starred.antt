@@ -72,8 +72,8 @@ twelveRounds =
     ∷ []
 
 -- the example with record i changed
-unfoldable pub changed : ℕ → String → List String
-changed i s = set twelveRounds i s
+unfoldable pub withRecord : ℕ → String → List String
+withRecord i s = set twelveRounds i s
 
 -- the example without record 10, its last sentence, and with all marks 5
 unfoldable pub rootGone : List String
@@ -89,17 +89,17 @@ rootGone =
 unfoldable pub starred : List Row
 starred =
     (twelveRounds, "0 0 0\n")
-    ∷ (changed 4 "T      0      1  1,250      0      0      0      1       \n", "14 4 3\n")
-    ∷ (changed 4 "T      0      1   1251      0      0      0      1       \n", "33 1 1\n")
-    ∷ (changed 11 "P      0            21      2      0      1              \n", "16 11 5\n")
+    ∷ (withRecord 4 "T      0      1  1,250      0      0      0      1       \n", "14 4 3\n")
+    ∷ (withRecord 4 "T      0      1   1251      0      0      0      1       \n", "33 1 1\n")
+    ∷ (withRecord 11 "P      0            21      2      0      1              \n", "16 11 5\n")
     ∷ (take 14 twelveRounds, "24 14 0\n")
     ∷ ([], "24 0 0\n")
-    ∷ (changed 13 "P      0      1     21      2             0              \n", "32 2 0\n")
-    ∷ (changed 13 "P      0      1      5      2             1              \n", "34 2 4\n")
-    ∷ (changed 11 "P      0            53      2     12      1              \n", "23 11 3\n")
+    ∷ (withRecord 13 "P      0      1     21      2             0              \n", "32 2 0\n")
+    ∷ (withRecord 13 "P      0      1      5      2             1              \n", "34 2 4\n")
+    ∷ (withRecord 11 "P      0            53      2     12      1              \n", "23 11 3\n")
     ∷ (rootGone, "35 0 3\n")
     ∷ []
 
 pub starred-lines : answered starred ≡ expected starred
-unfolding starred rootGone changed twelveRounds bytesOf lowest contentOf negative alone leading digits lastDigits numeral fieldAt recordOf kindOf shapeOf ruleAt lowestFault rangeAnswer extraAnswer missingAnswer formAnswer fieldsAnswer endedHead headOf perCounter stateOf guardOf moveOf formOf sentenceOf markOf placeOf emptyCase wayAnswer markAnswer placeAnswer thereAnswer roomAnswer orderAnswer taking.recordAnswer takenAs takenOf cutFrom cut collectedFrom collectedOf loopsFrom moveAt sum bit weightOf from gather startOf firstOf through ways drift base greater step chain wholeSum power limit front formThrough firstNot verdict lineOf answerOf
+unfolding starred rootGone withRecord twelveRounds bytesOf lowest contentOf negative alone leading digits lastDigits numeral fieldAt recordOf kindOf shapeOf ruleAt lowestFault rangeAnswer extraAnswer missingAnswer formAnswer fieldsAnswer endedHead headOf perCounter stateOf guardOf moveOf formOf sentenceOf markOf placeOf emptyCase wayAnswer markAnswer placeAnswer thereAnswer roomAnswer orderAnswer taking.recordAnswer takenAs takenOf cutFrom cut collectedFrom collectedOf loopsFrom moveAt sum bit weightOf from gather startOf firstOf through ways drift base greater step chain wholeSum power limit front formThrough firstNot verdict lineOf answerOf
 starred-lines = refl

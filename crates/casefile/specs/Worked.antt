@@ -30,7 +30,7 @@ use Rattle.collector.specs.Taking as taking
 use Rattle.meaning.specs.Run.{Spot, Way, next, spot, wayTaken, moveAt, countersAt}
 use Rattle.meaning.specs.Truth.{bit}
 use Rattle.meaning.specs.Judged.{Judged, startOf}
-use Rattle.meaning_laws.specs.Walk.{at}
+use Rattle.meaning_laws.specs.Walk.{spotAt}
 use Rattle.verdict.specs.Labels.{weightOf}
 use Rattle.verdict.specs.Rounds.{firstOf, through}
 use Rattle.verdict.specs.Forward.{ways, drift, base}
@@ -39,7 +39,7 @@ use Rattle.verdict.specs.Verdict.{formThrough, firstNot, verdict}
 use Rattle.casefile.specs.Answer.{answerOf}
 use Rattle.casefile.specs.Refused.{file-refused, file-ends}
 use Rattle.casefile.specs.Taken.{judgement-is}
-use Rattle.casefile.specs.Starred.{bytesOf, twelveRounds, changed}
+use Rattle.casefile.specs.Starred.{bytesOf, twelveRounds, withRecord}
 
 -- ---- what the meaning says of a file
 
@@ -140,10 +140,10 @@ both =
 unfoldable pub worked : List Worked
 worked =
     -- the example of twelve rounds: with 1 round, with 1000000, with one too many, with another state at place 0
-    (changed 11 "P      0            21      2      1      1              \n", numbers 0 0 0)
-    ∷ (changed 11 "P      0            21      21000000      1              \n", numbers 0 0 0)
-    ∷ (changed 11 "P      0            21      21000001      1              \n", numbers 16 11 5)
-    ∷ (changed 11 "P      1            21      2     12      1              \n", numbers 31 0 0)
+    (withRecord 11 "P      0            21      2      1      1              \n", numbers 0 0 0)
+    ∷ (withRecord 11 "P      0            21      21000000      1              \n", numbers 0 0 0)
+    ∷ (withRecord 11 "P      0            21      21000001      1              \n", numbers 16 11 5)
+    ∷ (withRecord 11 "P      1            21      2     12      1              \n", numbers 31 0 0)
     -- the sum with 4 rounds is below 5 everywhere, as the goal's own moment isn't counted: all marks are right, and a mark of the until isn't
     ∷ (fourRounds, numbers 35 0 3)
     ∷ (set fourRounds 11 "P      0            11      1      4      0              \n", numbers 34 0 3)
@@ -193,7 +193,7 @@ worked =
     ∷ []
 
 worked-answers : map (λ (r : Worked). answerOf (bytesOf (r .0))) worked ≡ map (λ (r : Worked). r .1) worked
-unfolding worked fourRounds rising looped both changed twelveRounds bytesOf lowest contentOf negative alone leading digits fieldAt recordOf kindOf shapeOf ruleAt lowestFault rangeAnswer extraAnswer missingAnswer formAnswer fieldsAnswer endedHead headOf perCounter stateOf guardOf moveOf formOf sentenceOf markOf placeOf emptyCase wayAnswer markAnswer placeAnswer thereAnswer roomAnswer orderAnswer taking.recordAnswer takenAs takenOf cutFrom cut collectedFrom collectedOf loopsFrom moveAt sum bit weightOf from gather startOf firstOf through ways drift base greater step chain wholeSum power limit front formThrough firstNot verdict answerOf
+unfolding worked fourRounds rising looped both withRecord twelveRounds bytesOf lowest contentOf negative alone leading digits fieldAt recordOf kindOf shapeOf ruleAt lowestFault rangeAnswer extraAnswer missingAnswer formAnswer fieldsAnswer endedHead headOf perCounter stateOf guardOf moveOf formOf sentenceOf markOf placeOf emptyCase wayAnswer markAnswer placeAnswer thereAnswer roomAnswer orderAnswer taking.recordAnswer takenAs takenOf cutFrom cut collectedFrom collectedOf loopsFrom moveAt sum bit weightOf from gather startOf firstOf through ways drift base greater step chain wholeSum power limit front formThrough firstNot verdict answerOf
 worked-answers = refl
 
 -- the meaning says of each file what the table gives
@@ -219,14 +219,14 @@ way p b = record { place = p; back = b }
 
 -- at some moments: where it is, by which way it goes on, and what counter 0 is. The counted loop's last moment is in round 11, counted from 0
 pub twelve-run : map {B = Spot × Way × ℤ} (λ m. (spot (twelve .places) m, wayTaken (twelve .places) m, countersAt twelve (startOf twelve) m 0)) (0 ∷ 1 ∷ 2 ∷ 22 ∷ 23 ∷ 24 ∷ 25 ∷ 26 ∷ [])
-    ≡ (at 0 0 0, way 1 false, pos 0)
-    ∷ (at 0 1 0, way 0 true, pos 1250)
-    ∷ (at 0 0 1, way 1 false, pos 0)
-    ∷ (at 0 0 11, way 1 false, pos 0)
-    ∷ (at 0 1 11, way 2 false, pos 1250)
-    ∷ (at 2 0 0, way 3 false, pos 0)
-    ∷ (at 2 1 0, way 2 true, pos 1250)
-    ∷ (at 2 0 1, way 3 false, pos 0)
+    ≡ (spotAt 0 0 0, way 1 false, pos 0)
+    ∷ (spotAt 0 1 0, way 0 true, pos 1250)
+    ∷ (spotAt 0 0 1, way 1 false, pos 0)
+    ∷ (spotAt 0 0 11, way 1 false, pos 0)
+    ∷ (spotAt 0 1 11, way 2 false, pos 1250)
+    ∷ (spotAt 2 0 0, way 3 false, pos 0)
+    ∷ (spotAt 2 1 0, way 2 true, pos 1250)
+    ∷ (spotAt 2 0 1, way 3 false, pos 0)
     ∷ []
 unfolding twelveRounds bytesOf cutFrom cut rowsOf contentOf negative alone leading digits fieldAt recordOf perCounter stateOf guardOf moveOf formOf sentenceOf markOf placeOf startOf spot next countersAt moveAt
 twelve-run = refl

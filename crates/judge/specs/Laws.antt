@@ -13,13 +13,13 @@ use Rattle.guards.specs.Found.{found, found-turn}
 -- ---- one element or none
 
 -- an element that is there or not
-abbrev pub listed : {A : Type 0} → Bool → A → List A
-listed true a = a ∷ []
-listed false a = []
+abbrev pub ifThere : {A : Type 0} → Bool → A → List A
+ifThere true a = a ∷ []
+ifThere false a = []
 
 -- number k gives a k, where it is there
 abbrev pub each : {A : Type 0} → (ℕ → Bool) → (ℕ → A) → ℕ → List A
-each there a k = listed (there k) (a k)
+each there a k = ifThere (there k) (a k)
 
 module _ {A : Type 0} (ok : A → Bool) (there : ℕ → Bool) (a : ℕ → A) (n : ℕ) where
   -- number k fails the test
@@ -30,7 +30,7 @@ module _ {A : Type 0} (ok : A → Bool) (there : ℕ → Bool) (a : ℕ → A) (
   unfolding firstNot
   one-first k = by (there k) (ok (a k)) refl
     where
-      by : (t u : Bool) → ok (a k) ≡ u → firstNot ok (listed t (a k)) ≡ cond (t && not u) (at (a k)) nowhere
+      by : (t u : Bool) → ok (a k) ≡ u → firstNot ok (ifThere t (a k)) ≡ cond (t && not u) (at (a k)) nowhere
       by true true e = rw e
       by true false e = rw e
       by false u e = refl

@@ -31,7 +31,7 @@ use Rattle.tables.specs.Reads.{at-places, at-moves, at-guards}
 use Rattle.guards.specs.Found.{found, found-start}
 use Rattle.marks.specs.Known.{first-is, rounds-are}
 use Rattle.judge.specs.Told.{isNamed, given}
-use Rattle.judge.specs.Laws.{listed, each, gather-two, gather-gather}
+use Rattle.judge.specs.Laws.{ifThere, each, gather-two, gather-gather}
 use Rattle.judge.specs.Ways.{wayNo, isWay, ways-listed, move-held, move-below}
 
 -- one of the two guards of a move
@@ -40,7 +40,7 @@ guardBy second m = cond second (m .guard2) (m .guard1)
 
 -- ---- all tests
 
-both-listed : {A : Type 0} (f : ℕ → A) (a b : Ref) → map f (named a ++ named b) ++ [] ≡ listed (isNamed a) (f (refNumber a)) ++ listed (isNamed b) (f (refNumber b))
+both-listed : {A : Type 0} (f : ℕ → A) (a b : Ref) → map f (named a ++ named b) ++ [] ≡ ifThere (isNamed a) (f (refNumber a)) ++ ifThere (isNamed b) (f (refNumber b))
 both-listed f ref.None ref.None = refl
 both-listed f ref.None (ref.At m) = refl
 both-listed f (ref.At n) ref.None = refl
@@ -59,8 +59,8 @@ module _ (x : Items) where
   abbrev testsOn : Way → List Test
   testsOn w = map (λ g. record { way = w; guard = g }) (guardsOf (moveBy x w))
 
-  on-way : (w : Way) → gather testsOn (listed (isNamed (moveNo (x .places) w)) w)
-      ≡ listed (isNamed (guardOn w false)) (testOn w false) ++ listed (isNamed (guardOn w true)) (testOn w true)
+  on-way : (w : Way) → gather testsOn (ifThere (isNamed (moveNo (x .places) w)) w)
+      ≡ ifThere (isNamed (guardOn w false)) (testOn w false) ++ ifThere (isNamed (guardOn w true)) (testOn w true)
   unfolding gather moveAt
   on-way w = by (moveNo (x .places) w) refl
     where
@@ -70,7 +70,7 @@ module _ (x : Items) where
       by : (r : Ref) →
           let m = moveAt (x .moves) r in
           testsOn w ≡ map test (guardsOf m) →
-          gather testsOn (listed (isNamed r) w) ≡ listed (isNamed (m .guard1)) (test (refNumber (m .guard1))) ++ listed (isNamed (m .guard2)) (test (refNumber (m .guard2)))
+          gather testsOn (ifThere (isNamed r) w) ≡ ifThere (isNamed (m .guard1)) (test (refNumber (m .guard1))) ++ ifThere (isNamed (m .guard2)) (test (refNumber (m .guard2)))
       by ref.None e = refl
       by (ref.At t) e = ap (λ k. k ++ []) e ∙ both-listed test (moveAt (x .moves) (ref.At t) .guard1) (moveAt (x .moves) (ref.At t) .guard2)
 
@@ -90,7 +90,7 @@ module _ (x : Items) where
       let e : 2 * (2 * n) ≡ 4 * n = omega arith in
       ap (gather testsOn) (ways-listed x)
       ∙ gather-gather testsOn (each (isWay x) wayNo) (from 0 (2 * n))
-      ∙ gather-two (λ k. gather testsOn (each (isWay x) wayNo k)) (λ k b. listed (isNamed (guardOn (wayNo k) b)) (testOn (wayNo k) b)) (λ k. on-way (wayNo k)) 0 (2 * n)
+      ∙ gather-two (λ k. gather testsOn (each (isWay x) wayNo k)) (λ k b. ifThere (isNamed (guardOn (wayNo k) b)) (testOn (wayNo k) b)) (λ k. on-way (wayNo k)) 0 (2 * n)
       ∙ ap (λ m. gather (each isTest testNo) (from 0 m)) e
 
   -- what the search for a guard that fails finds from test k on

@@ -28,7 +28,7 @@ use Rattle.verdict.specs.Verdict.{Found, firstNot, connects, refNumber}
 use Rattle.tables.specs.Reads.{at-places, at-moves}
 use Rattle.guards.specs.Found.{found, found-start}
 use Rattle.judge.specs.Told.{isNamed}
-use Rattle.judge.specs.Laws.{listed, each, fails, gather-two}
+use Rattle.judge.specs.Laws.{ifThere, each, fails, gather-two}
 
 -- way k
 abbrev pub wayNo : ℕ → Way
@@ -36,11 +36,11 @@ wayNo k = record { place = k / 2; back = eqb (k % 2) 1 }
 
 -- ---- all ways
 
-in-listed : (p : ℕ) (r : Ref) → wayIn p r ≡ listed (isNamed r) (record { place = p; back = false })
+in-listed : (p : ℕ) (r : Ref) → wayIn p r ≡ ifThere (isNamed r) (record { place = p; back = false })
 in-listed p ref.None = refl
 in-listed p (ref.At t) = refl
 
-back-listed : (p : ℕ) (m : LoopMark) → wayBack p m ≡ listed (isNamed (backOf m)) (record { place = p; back = true })
+back-listed : (p : ℕ) (m : LoopMark) → wayBack p m ≡ ifThere (isNamed (backOf m)) (record { place = p; back = true })
 back-listed p mark.None = refl
 back-listed p (mark.Counted l n b) = refl
 back-listed p (mark.Endless l b) = refl
@@ -53,7 +53,7 @@ module _ (x : Items) where
   pub ways-listed : waysOf x ≡ gather (each isWay wayNo) (from 0 (2 * length (x .places)))
   ways-listed =
       let ps = x .places in
-      gather-two (waysInto ps) (λ p b. let w : Way = record { place = p; back = b } in listed (isNamed (moveNo ps w)) w)
+      gather-two (waysInto ps) (λ p b. let w : Way = record { place = p; back = b } in ifThere (isNamed (moveNo ps w)) w)
       (λ p. ap₂ _++_ (in-listed p (placeAt ps p .way)) (back-listed p (placeAt ps p .mark))) 0 (length ps)
 
   -- what the search for a way that doesn't connect finds from way k on

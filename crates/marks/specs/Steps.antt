@@ -18,7 +18,7 @@ use Rattle.items.specs.Lists.{Items, roomOf}
 use Rattle.meaning.specs.Judged.{marked}
 use Rattle.verdict.specs.Labels.{Label, weightOf}
 use Rattle.maxplus.specs.declared.Steps.{Steps}
-use Rattle.maxplus.specs.Numbers.{none, nth, choiceBy, stopOf, goOf}
+use Rattle.maxplus.specs.Numbers.{none, entryAt, choiceBy, stopOf, goOf}
 use Rattle.maxplus.specs.Shows.{StepsAre}
 use Rattle.tables.specs.Entries.{entry}
 use Rattle.tables.specs.Reads.{at-left}
@@ -66,9 +66,9 @@ module _ (x : Items) where
 
 -- ---- the table has the steps
 
-pub steps-are : (l : ℕ → Label) {s : Steps} → s ≡ stepsOf l → StepsAre l (nth (s .stops)) (nth (s .goes))
+pub steps-are : (l : ℕ → Label) {s : Steps} → s ≡ stepsOf l → StepsAre l (entryAt (s .stops)) (entryAt (s .goes))
 steps-are l e =
     record {
-      stops = λ i h. ap (λ (s : Steps). nth (s .stops) i) e ∙ entry (λ p. stopOf (l p)) (roomOf kind.Place) i (pos 0) h;
-      goes = λ i h. ap (λ (s : Steps). nth (s .goes) i) e ∙ entry (λ p. goOf (l p)) (roomOf kind.Place) i (pos 0) h;
+      stops = λ i h. ap (λ (s : Steps). entryAt (s .stops) i) e ∙ entry (λ p. stopOf (l p)) (roomOf kind.Place) i (pos 0) h;
+      goes = λ i h. ap (λ (s : Steps). entryAt (s .goes) i) e ∙ entry (λ p. goOf (l p)) (roomOf kind.Place) i (pos 0) h;
     }

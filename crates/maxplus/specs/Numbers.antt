@@ -25,8 +25,8 @@ abbrev pub least : ℤ
 least = negℤ (pos 1000000)
 
 -- element i of a table
-abbrev pub nth : List ℤ → ℕ → ℤ
-nth l i = getD l i (pos 0)
+abbrev pub entryAt : List ℤ → ℕ → ℤ
+entryAt l i = getD l i (pos 0)
 
 -- what a choice gives, where it can be made
 abbrev pub choiceBy : Bool → ℤ → ℤ

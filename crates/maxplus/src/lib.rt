@@ -8,7 +8,7 @@ ghost use Rattle.kinds.specs.declared.Kind.the-variants as kind;
 ghost use Rattle.items.specs.Lists.{roomOf};
 ghost use Rattle.meaning.specs.Run.{stretch};
 ghost use Rattle.verdict.specs.Rounds.{roundsOf};
-ghost use Rattle.maxplus.specs.Numbers.{nth, choiceBy, larger, stepBy, roundBy, powerBy, limitBy, aroundBy};
+ghost use Rattle.maxplus.specs.Numbers.{entryAt, choiceBy, larger, stepBy, roundBy, powerBy, limitBy, aroundBy};
 ghost use Rattle.maxplus.specs.Bounds.{Few, Tame, Slight, small};
 use collector::Case;
 use items::LoopMark;
@@ -73,8 +73,8 @@ fn over<'a>(
     p: usize,
     n: usize,
 ) -> Round
-    requires { ⌜ (p + n ≤ roomOf kind.Place) × Tame (nth (stops .now)) (nth (goes .now)) ⌝ }
-    ensures { λ r. ⌜ r ≡ roundBy (nth (stops .entry .now)) (nth (goes .entry .now)) p n ⌝ }
+    requires { ⌜ (p + n ≤ roomOf kind.Place) × Tame (entryAt (stops .now)) (entryAt (goes .now)) ⌝ }
+    ensures { λ r. ⌜ r ≡ roundBy (entryAt (stops .entry .now)) (entryAt (goes .entry .now)) p n ⌝ }
 {
     let mut within = NONE;
     let mut sum: i64 = 0;
@@ -129,8 +129,8 @@ pub fn around<'a>(
     mark: LoopMark,
     v: i64,
 ) -> Ends
-    requires { ⌜ (q + stretch mark ≤ roomOf kind.Place) × ((Tame (nth (stops .now)) (nth (goes .now))) × ((Few (roundsOf mark)) × (size v ≤ small))) ⌝ }
-    ensures { λ x. ⌜ x ≡ aroundBy (nth (stops .entry .now)) (nth (goes .entry .now)) q mark v ⌝ }
+    requires { ⌜ (q + stretch mark ≤ roomOf kind.Place) × ((Tame (entryAt (stops .now)) (entryAt (goes .now))) × ((Few (roundsOf mark)) × (size v ≤ small))) ⌝ }
+    ensures { λ x. ⌜ x ≡ aroundBy (entryAt (stops .entry .now)) (entryAt (goes .entry .now)) q mark v ⌝ }
 {
     match mark {
         LoopMark::None => Ends { first: v, last: v },

@@ -93,15 +93,15 @@ alike-self b = alike-by b b refl (λ k is. record { answer = λ n l. refl; item 
 -- ---- a place
 
 -- a number of rounds in its range
-abbrev pub InRange : ℤ → Type 0
-InRange z = beyond (rangeOf Rounds) (Number z) ≡ false
+abbrev pub RoundsInRange : ℤ → Type 0
+RoundsInRange z = beyond (rangeOf Rounds) (Number z) ≡ false
 
 module _ (g : ℕ → Field) where
   -- the place with z rounds
   abbrev rounds : ℤ → Record
   rounds z = record { fields = rowWith g (Number z) }
 
-  module _ (y z : ℤ) (p : InRange y) (q : InRange z) where
+  module _ (y z : ℤ) (p : RoundsInRange y) (q : RoundsInRange z) where
     same-fault : (f : Fault) (k : ℕ) → faultAt f (shapeOf Place (rounds y)) (rounds y) k ≡ faultAt f (shapeOf Place (rounds z)) (rounds z) k
     unfolding ruleAt shapeOf
     same-fault f zero = refl
@@ -139,7 +139,7 @@ module _ (g : ℕ → Field) where
         }
 
 -- two records of places that differ in their rounds alone are taken alike
-pub alike-places : (b e : List ℕ) (g : ℕ → Field) (y z : ℤ) → IsA Place b → headOf e ≡ headOf b → InRange y → InRange z →
+pub alike-places : (b e : List ℕ) (g : ℕ → Field) (y z : ℤ) → IsA Place b → headOf e ≡ headOf b → RoundsInRange y → RoundsInRange z →
     recordOf b ≡ rounds g y → recordOf e ≡ rounds g z → Alike b e
 alike-places b e g y z is h p q v w =
     alike-by b e h (λ k a.

@@ -23,11 +23,11 @@ pub data Later (r : ℕ) : ℕ → ℕ → ℕ → Type 0 where
   same : {k : ℕ} → Later r k k 0
   more : {k n s : ℕ} → Later r k n s → Later r k (suc n) (s + r)
 
-pub later : (r k n : ℕ) → k ≤ n → (s : ℕ) × Later r k n s
-later r k zero h = let e : k ≡ 0 = omega arith in (0, subst (λ i. Later r i 0 0) (sym e) same)
-later r k (suc n) h = ⊎-elim
+pub is-later : (r k n : ℕ) → k ≤ n → (s : ℕ) × Later r k n s
+is-later r k zero h = let e : k ≡ 0 = omega arith in (0, subst (λ i. Later r i 0 0) (sym e) same)
+is-later r k (suc n) h = ⊎-elim
     (λ e. (0, subst (λ i. Later r i (suc n) 0) (sym e) same))
-    (λ l. let s = later r k n (omega arith) in (s .0 + r, more (s .1)))
+    (λ l. let s = is-later r k n (omega arith) in (s .0 + r, more (s .1)))
     (eq-or-lt-of-le h)
 
 -- what holds of a number holds of the next, or the other way round

@@ -50,7 +50,7 @@ use Rattle.meaning_laws.specs.Given.{facts}
 use Rattle.meaning_laws.specs.Third.{between}
 use Rattle.meaning_laws.specs.AllTaken.{spelled-append, all-taken}
 use Rattle.meaning_laws.specs.Around.{rowWith, Around, around}
-use Rattle.meaning_laws.specs.Alike.{InRange, alike-places, same-run}
+use Rattle.meaning_laws.specs.Alike.{RoundsInRange, alike-places, same-run}
 
 -- the bytes of a field say the number z
 abbrev SaysNumber : List ℕ → ℤ → Type 0
@@ -62,12 +62,12 @@ SaysNumber f z = (length f ≡ width) × (contentOf f ≡ Number z)
 abbrev AtLeastOne : ℤ → Type 0
 AtLeastOne z = (n : ℕ) × (z ≡ pos n) × (1 ≤ n)
 
-at-least-one : (z : ℤ) → InRange z → AtLeastOne z
+at-least-one : (z : ℤ) → RoundsInRange z → AtLeastOne z
 at-least-one (pos n) p = (n, refl, ltb-false n 1 (neither (ltZ (pos n) (pos 1)) (ltZ (pos 1000000) (pos n)) p .0))
 at-least-one (negsuc n) p = absurd (true≢false p)
 
 -- what is between two numbers in range is in range
-between-range : (a b c : ℤ) → InRange a → InRange c → a ≤ℤ b → b ≤ℤ c → InRange b
+between-range : (a b c : ℤ) → RoundsInRange a → RoundsInRange c → a ≤ℤ b → b ≤ℤ c → RoundsInRange b
 between-range a b c p r ab bc =
     let u = neither (ltZ a (pos 1)) (ltZ (pos 1000000) a) p in
     let v = neither (ltZ c (pos 1)) (ltZ (pos 1000000) c) r in
@@ -100,7 +100,7 @@ module _ (g : ℕ → Field) where
       ap (λ m. record { state = p .state; way = p .way; marks = p .marks; mark = m }) (mark-with (g 4 .content) (g 6 .content) y n)
 
   module _ (z : ℤ) (f : Fit kind.Place (rowWith g (Number z))) where
-    fit-range : InRange z
+    fit-range : RoundsInRange z
     unfolding ruleAt shapeOf
     fit-range = met f 5 .ranged
 
@@ -166,7 +166,7 @@ module _ (pre post : List ℕ) (i : ℕ) (w : Around pre post i) (is : (f : List
     others-are k o = lists-are k ∙ ap (λ l. listOf k (spelledBy (w .before)) ++ map (itemOf k) l) (rows-other (w .own f) (w .after) kind.Place (is f) k o)
 
   -- where both numbers are in range, the files are taken alike
-  taken-too : (e f : List ℕ) (y z : ℤ) → SaysNumber e y → SaysNumber f z → InRange y → InRange z → Taken e → Taken f
+  taken-too : (e f : List ℕ) (y z : ℤ) → SaysNumber e y → SaysNumber f z → RoundsInRange y → RoundsInRange z → Taken e → Taken f
   taken-too e f y z u v p q =
       let a = alike-places (w .own e) (w .own f) (w .others) y z (is e) (w .headed f e (v .0) (u .0)) p q (row-is e y u) (row-is f z v) in
       let r = ap (λ t. t .answer) (run-is e y u) ∙ same-run (w .before) (w .after) (w .own e) (w .own f) a emptyCase 0 ∙ ap (λ t. t .answer) (sym (run-is f z v)) in
@@ -225,13 +225,13 @@ module _ (pre post : List ℕ) (i : ℕ) (w : Around pre post i) (is : (f : List
       k : (l : ℕ) × (k : ℕ) × (place a .mark ≡ mark.Counted l (natural (Number a)) k)
       k = fit-counted (w .others) a fit
 
-      ra : InRange a
+      ra : RoundsInRange a
       ra = fit-range (w .others) a fit
 
-      rc : InRange c
+      rc : RoundsInRange c
       rc = fit-range (w .others) c (own-fits fc c sc (all-taken (file fc) .0 (vc .taken)))
 
-      rb : InRange b
+      rb : RoundsInRange b
       rb = between-range a b c ra rc ab bc
 
       na : AtLeastOne a

@@ -19,7 +19,7 @@ use Rattle.rules.specs.Rules.{markAt}
 use Rattle.meaning.specs.Run.{Moment, Spot, Step, here, stretch, goesAgain, next, spot, wayTaken, placeAt}
 use Rattle.meaning.specs.Rounds.{markWith, placeWith, placesWith}
 use Rattle.meaning_laws.specs.Facts.{Laid}
-use Rattle.meaning_laws.specs.Walk.{at, no-less, in-stretch, Reached, reach}
+use Rattle.meaning_laws.specs.Walk.{spotAt, no-less, in-stretch, Reached, reach}
 
 -- plans P 0, P 1, .. whose runs have one loop with 1, 2, .. rounds: each has one round more than the one before
 pub record Repeats (P : ℕ → List Place) : Type 0 where
@@ -35,7 +35,7 @@ pub record Repeats (P : ℕ → List Place) : Type 0 where
 
 -- a spot in the loop that place s begins and the spot a round before it; or a spot after the loop
 data Later (s : ℕ) : Spot → Spot → Type 0 where
-  in-loop : (o r : ℕ) → Later s (at s o (r + 1)) (at s o r)
+  in-loop : (o r : ℕ) → Later s (spotAt s o (r + 1)) (spotAt s o r)
   past : (x : Spot) → s < x .first → Later s x x
 
 -- two steps to such spots, both by a back move or neither
@@ -71,10 +71,10 @@ module _ (ps : List Place) (laid : Laid ps) (s l n b : ℕ) (h : s < length ps) 
   -- the step from step o of round r: on in the round, or else back if there is one more
   abbrev stepFrom : ℕ → ℕ → Bool → Bool → Step
   stepFrom o r on more =
-      cond on (record { to = at s (o + 1) r; back = false })
-      (cond more (record { to = at s 0 (r + 1); back = true }) (record { to = at (s + l) 0 0; back = false }))
+      cond on (record { to = spotAt s (o + 1) r; back = false })
+      (cond more (record { to = spotAt s 0 (r + 1); back = true }) (record { to = spotAt (s + l) 0 0; back = false }))
 
-  this-step : (k o r : ℕ) → next (P k) (at s o r) ≡ stepFrom o r (ltb (o + 1) l) (ltb (r + 1) (suc k))
+  this-step : (k o r : ℕ) → next (P k) (spotAt s o r) ≡ stepFrom o r (ltb (o + 1) l) (ltb (r + 1) (suc k))
   unfolding next
   this-step k o r = rw (this-mark k)
 
@@ -102,13 +102,13 @@ module _ (ps : List Place) (laid : Laid ps) (s l n b : ℕ) (h : s < length ps) 
 
   -- ---- in the loop, up to the last step of round k
 
-  inside : (k r o : ℕ) → r ≤ k → o < l → spot (P k) (start + (r * l + o)) ≡ at s o r
+  inside : (k r o : ℕ) → r ≤ k → o < l → spot (P k) (start + (r * l + o)) ≡ spotAt s o r
   inside k r o c g =
       let w : stretch (markAt (P k) s) ≡ l = ap stretch (this-mark k) in
       rw w at (in-stretch (P k) s start (rw w long) (before k start (omega arith) ∙ came .there) r o
       (λ i d. ap (λ t. goesAgain t i) (this-mark k) ∙ lt-ltb (i + 1) (suc k) (omega arith)) (rw w g))
 
-  same-inside : (k o r : ℕ) → (l ≤ o + 1 → r < k) → next (P (suc k)) (at s o r) ≡ next (P k) (at s o r)
+  same-inside : (k o r : ℕ) → (l ≤ o + 1 → r < k) → next (P (suc k)) (spotAt s o r) ≡ next (P k) (spotAt s o r)
   same-inside k o r f =
       rw (this-step (suc k) o r, this-step k o r)
       (elim (decLt (o + 1) l) [
@@ -144,7 +144,7 @@ module _ (ps : List Place) (laid : Laid ps) (s l n b : ℕ) (h : s < length ps) 
   later-inside : (o r : ℕ) (on more : Bool) → Both s (stepFrom o (r + 1) on more) (stepFrom o r on more)
   later-inside o r true more = (in-loop (o + 1) r, refl)
   later-inside o r false true = (in-loop 0 (r + 1), refl)
-  later-inside o r false false = (past (at (s + l) 0 0) (omega (arith, long)), refl)
+  later-inside o r false false = (past (spotAt (s + l) 0 0) (omega (arith, long)), refl)
 
   later-step : (k : ℕ) {x y : Spot} → Later s x y → Both s (next (P (suc k)) x) (next (P k) y)
   later-step k (in-loop o r) =

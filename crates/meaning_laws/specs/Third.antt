@@ -36,7 +36,7 @@ use Rattle.meaning_laws.specs.Counting.{Gets}
 use Rattle.meaning_laws.specs.Below.{below, RightBelow, SaysBelow, until-labels}
 use Rattle.meaning_laws.specs.Stays.{in-plan}
 use Rattle.meaning_laws.specs.Repeats.{Repeats, repeats}
-use Rattle.meaning_laws.specs.Between.{Later, later, same, OneWay, one-way, sum-same, sum-plus, left, left-later, next-left, first-round, places-before, ways-before, places-later, ways-later, labels, gets-same, gets-one-way}
+use Rattle.meaning_laws.specs.Between.{Later, is-later, same, OneWay, one-way, sum-same, sum-plus, left, left-later, next-left, first-round, places-before, ways-before, places-later, ways-later, labels, gets-same, gets-one-way}
 
 module _ (x : Items) (f : Facts x) (s l n back : ℕ) (held : s < length (x .places)) (is : markAt (x .places) s ≡ mark.Counted l n back) (θ : Valuation) where
   -- the case with k + 1 rounds
@@ -68,7 +68,7 @@ module _ (x : Items) (f : Facts x) (s l n back : ℕ) (held : s < length (x .pla
   drift j = countersAt (X 1) θ (r .start + r .round) j +ℤ negℤ (countersAt (X 0) θ (r .start) j)
 
   from-first : (k : ℕ) → (d : ℕ) × Later (r .round) 0 k d
-  from-first k = later (r .round) 0 k (omega arith)
+  from-first k = is-later (r .round) 0 k (omega arith)
 
   rest : (a b c d : ℤ) → a ≡ c → b ≡ d → a ≡ b +ℤ (c +ℤ negℤ d)
   rest a b c d e g = eq-in (omega (arith, add-rel b (c +ℤ negℤ d), add-rel c (negℤ d), neg-rel d, ap up e, ap down e, ap up g, ap down g))
@@ -82,7 +82,7 @@ module _ (x : Items) (f : Facts x) (s l n back : ℕ) (held : s < length (x .pla
   counters-later k zero j =
       let e : r .start + 0 ≡ r .start = omega arith in
       let g : r .start + 0 + r .round ≡ r .start + r .round = omega arith in
-      let a = later (r .round) 1 (suc k) (omega arith) in
+      let a = is-later (r .round) 1 (suc k) (omega arith) in
       rest (countersAt (X (suc k)) θ (r .start + 0 + r .round) j) (countersAt (X k) θ (r .start + 0) j) (countersAt (X 1) θ (r .start + r .round) j) (countersAt (X 0) θ (r .start) j)
       (ap (λ i. countersAt (X (suc k)) θ i j) g ∙ counters-before (a .1) (r .start + r .round) j (omega (arith, r .long)))
       (ap (λ i. countersAt (X k) θ i j) e ∙ counters-before (from-first k .1) (r .start) j (omega (arith, r .long)))
@@ -315,7 +315,7 @@ pub between : (x : Items) → Facts x → (s l n back : ℕ) → s < length (x .
     IsAccepted (withRounds x s a) θ → IsAccepted (withRounds x s c) θ → IsAccepted (withRounds x s b) θ
 between x f s l n back held is (suc a) (suc b) (suc c) h ab bc θ =
     let r = repeats (x .places) (f .laid) s l n back held is in
-    accepted-between x f s l n back held is θ (later (r .round) a b (omega arith) .1) (later (r .round) b c (omega arith) .1)
+    accepted-between x f s l n back held is θ (is-later (r .round) a b (omega arith) .1) (is-later (r .round) b c (omega arith) .1)
 between x f s l n back held is zero b c h ab bc θ = absurd (omega arith)
 between x f s l n back held is (suc a) zero c h ab bc θ = absurd (omega arith)
 between x f s l n back held is (suc a) (suc b) zero h ab bc θ = absurd (omega arith)

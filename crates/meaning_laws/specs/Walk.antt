@@ -18,23 +18,23 @@ use Rattle.meaning.specs.Run.{Moment, Spot, Step, stretch, goesAgain, next, spo
 use Rattle.meaning_laws.specs.Facts.{Laid}
 
 -- the spot at step o of round r of the stretch that place q begins
-abbrev pub at : ℕ → ℕ → ℕ → Spot
-at q o r = record { first = q; step = o; round = r }
+abbrev pub spotAt : ℕ → ℕ → ℕ → Spot
+spotAt q o r = record { first = q; step = o; round = r }
 
 -- ---- one step
 
 pub next-on : (ps : List Place) (q o r : ℕ) → o + 1 < stretch (markAt ps q) →
-    next ps (at q o r) ≡ record { to = at q (o + 1) r; back = false }
+    next ps (spotAt q o r) ≡ record { to = spotAt q (o + 1) r; back = false }
 unfolding next
 next-on ps q o r h = rw (lt-ltb (o + 1) (stretch (markAt ps q)) h)
 
 pub next-back : (ps : List Place) (q o r : ℕ) → stretch (markAt ps q) ≤ o + 1 → goesAgain (markAt ps q) r ≡ true →
-    next ps (at q o r) ≡ record { to = at q 0 (r + 1); back = true }
+    next ps (spotAt q o r) ≡ record { to = spotAt q 0 (r + 1); back = true }
 unfolding next
 next-back ps q o r h e = rw (le-ltb (o + 1) (stretch (markAt ps q)) h, e)
 
 pub next-out : (ps : List Place) (q o r : ℕ) → stretch (markAt ps q) ≤ o + 1 → goesAgain (markAt ps q) r ≡ false →
-    next ps (at q o r) ≡ record { to = at (q + stretch (markAt ps q)) 0 0; back = false }
+    next ps (spotAt q o r) ≡ record { to = spotAt (q + stretch (markAt ps q)) 0 0; back = false }
 unfolding next
 next-out ps q o r h e = rw (le-ltb (o + 1) (stretch (markAt ps q)) h, e)
 
@@ -68,24 +68,24 @@ module _ (ps : List Place) (q : ℕ) where
   L = stretch (markAt ps q)
 
   -- step o of a round
-  along : (m : Moment) (r : ℕ) → spot ps m ≡ at q 0 r → (o : ℕ) → o < L → spot ps (m + o) ≡ at q o r
+  along : (m : Moment) (r : ℕ) → spot ps m ≡ spotAt q 0 r → (o : ℕ) → o < L → spot ps (m + o) ≡ spotAt q o r
   along m r e zero h = let d : m + 0 ≡ m = omega arith in ap (spot ps) d ∙ e
   along m r e (suc o) h = after ps (omega arith) (along m r e o (omega arith)) (rw add-one at (next-on ps q o r (omega arith)))
 
-  module _ (m : Moment) (l : 1 ≤ L) (e : spot ps m ≡ at q 0 0) where
+  module _ (m : Moment) (l : 1 ≤ L) (e : spot ps m ≡ spotAt q 0 0) where
     -- where round r begins
-    begins : (r : ℕ) → ((i : ℕ) → i < r → goesAgain (markAt ps q) i ≡ true) → spot ps (m + r * L) ≡ at q 0 r
+    begins : (r : ℕ) → ((i : ℕ) → i < r → goesAgain (markAt ps q) i ≡ true) → spot ps (m + r * L) ≡ spotAt q 0 r
     begins zero a = let d : m + 0 * L ≡ m = omega arith in ap (spot ps) d ∙ e
     begins (suc r) a =
         after ps (omega arith) (along (m + r * L) r (begins r (λ i h. a i (omega arith))) (L - 1) (omega arith))
         (rw (add-one r) at (next-back ps q (L - 1) r (omega arith) (a r (omega arith))))
 
     pub in-stretch : (r o : ℕ) → ((i : ℕ) → i < r → goesAgain (markAt ps q) i ≡ true) → o < stretch (markAt ps q) →
-        spot ps (m + (r * stretch (markAt ps q) + o)) ≡ at q o r
+        spot ps (m + (r * stretch (markAt ps q) + o)) ≡ spotAt q o r
     in-stretch r o a h = let d : m + (r * L + o) ≡ m + r * L + o = omega arith in ap (spot ps) d ∙ along (m + r * L) r (begins r a) o h
 
     pub out-stretch : (k : ℕ) → ((i : ℕ) → i < k → goesAgain (markAt ps q) i ≡ true) → goesAgain (markAt ps q) k ≡ false →
-        spot ps (m + suc k * stretch (markAt ps q)) ≡ at (q + stretch (markAt ps q)) 0 0
+        spot ps (m + suc k * stretch (markAt ps q)) ≡ spotAt (q + stretch (markAt ps q)) 0 0
     out-stretch k a f = after ps (omega arith) (in-stretch k (L - 1) a (omega arith)) (next-out ps q (L - 1) k (omega arith) f)
 
 -- ---- to the first place of a loop
@@ -93,7 +93,7 @@ module _ (ps : List Place) (q : ℕ) where
 -- the run comes to the first place of a loop
 pub record Reached (ps : List Place) (s : ℕ) : Type 0 where
   pub moment : Moment
-  pub there : spot ps moment ≡ at s 0 0
+  pub there : spot ps moment ≡ spotAt s 0 0
   pub before : (m : Moment) → m < moment → spot ps m .first < s
 
 -- the last round of a stretch that has one
@@ -104,11 +104,11 @@ last-round (mark.Endless l b) d = absurd (d refl)
 
 module _ (ps : List Place) (laid : Laid ps) (s : ℕ) (h : s < length ps) (marked : markAt ps s ≡ mark.None → ⊥) where
   -- from the first place of a stretch, through at most f others
-  come : (f q : ℕ) (m : Moment) → q ≤ s → s < q + f → spot ps m ≡ at q 0 0 → ((i : Moment) → i < m → spot ps i .first < s) → Reached ps s
+  come : (f q : ℕ) (m : Moment) → q ≤ s → s < q + f → spot ps m ≡ spotAt q 0 0 → ((i : Moment) → i < m → spot ps i .first < s) → Reached ps s
   come zero q m le lt e b = absurd (omega arith)
   come (suc f) q m le lt e b =
       elim (decLt q s) [
-        | no d ↦ let w : q ≡ s = omega arith in record { moment = m; there = e ∙ ap (λ p. at p 0 0) w; before = b }
+        | no d ↦ let w : q ≡ s = omega arith in record { moment = m; there = e ∙ ap (λ p. spotAt p 0 0) w; before = b }
         | yes g ↦
             let l = laid .long q in
             let n : q + L ps q ≤ s = laid .apart q s g h marked in

@@ -10,7 +10,7 @@ use Rattle.record.specs.Spell.{numeral}
 use Rattle.record_laws.specs.Digits.{numeral-one, numeral-more, numeral-length}
 use Rattle.answers.specs.declared.Told.{Told}
 use Rattle.output.specs.declared.Line.{Line}
-use Rattle.output.specs.Line.{lineOf, most, longest, holding, pushed, added}
+use Rattle.output.specs.Line.{lineOf, most, longest, holding, pushed, withBytes}
 use Rattle.record.specs.Layout.{lineFeed}
 
 -- ---- the digits of a number
@@ -30,8 +30,8 @@ more-digits n h =
 -- ---- bytes put into a line
 
 -- some bytes, and then more
-pub added-append : (l : Line) (bs cs : List ℕ) → added l (bs ++ cs) ≡ added (added l bs) cs
-unfolding added
+pub added-append : (l : Line) (bs cs : List ℕ) → withBytes l (bs ++ cs) ≡ withBytes (withBytes l bs) cs
+unfolding withBytes
 added-append l [] cs = refl
 added-append l (b ∷ bs) cs = added-append (pushed l b) bs cs
 
@@ -43,11 +43,11 @@ pushed-holding bs b h =
     rw (e, length-append, append-snoc, set-append-seam)
 
 -- bytes put into a line that holds bytes
-added-holding : (bs cs : List ℕ) → length bs + length cs ≤ longest → added (holding bs) cs ≡ holding (bs ++ cs)
-unfolding added
+added-holding : (bs cs : List ℕ) → length bs + length cs ≤ longest → withBytes (holding bs) cs ≡ holding (bs ++ cs)
+unfolding withBytes
 added-holding bs [] h = ap holding (sym (append-nil bs))
 added-holding bs (c ∷ cs) h =
-    ap (λ l. added l cs) (pushed-holding bs c (omega arith))
+    ap (λ l. withBytes l cs) (pushed-holding bs c (omega arith))
     ∙ added-holding (bs ++ (c ∷ [])) cs (omega (arith, length-append bs (c ∷ [])))
     ∙ ap holding (append-snoc bs c cs)
 
@@ -66,8 +66,8 @@ room t w =
 -- the parts of a line, put into an empty line one after the other
 pub line-parts : (t : Told) → Wide t →
     holding (lineOf t)
-    ≡ pushed (added (pushed (added (pushed (added (holding []) (numeral (t .result))) space) (numeral (t .second))) space) (numeral (t .third))) lineFeed
-unfolding lineOf added
+    ≡ pushed (withBytes (pushed (withBytes (pushed (withBytes (holding []) (numeral (t .result))) space) (numeral (t .second))) space) (numeral (t .third))) lineFeed
+unfolding lineOf withBytes
 line-parts t w =
     let l : length (lineOf t) ≤ longest = simp length-append (omega (arith, room t w)) in
     sym (added-holding [] (lineOf t) (omega arith)) ∙ simp added-append

@@ -29,6 +29,6 @@ abbrev pub pushed : Line → ℕ → Line
 pushed l b = record { bytes = set (l .bytes) (l .count) b; count = l .count + 1 }
 
 -- the line with more bytes, one after the other
-unfoldable pub added : Line → List ℕ → Line
-added l [] = l
-added l (b ∷ bs) = added (pushed l b) bs
+unfoldable pub withBytes : Line → List ℕ → Line
+withBytes l [] = l
+withBytes l (b ∷ bs) = withBytes (pushed l b) bs

@@ -4,7 +4,7 @@ ghost use Prim.Native.Nat.{_+_, _%_, _≤_, _<_};
 ghost use lib.ListN.{length};
 ghost use Rattle.record.specs.Spelling.{digit};
 ghost use Rattle.record.specs.Spell.{numeral};
-ghost use Rattle.output.specs.Line.{lineOf, longest, holding, pushed, added};
+ghost use Rattle.output.specs.Line.{lineOf, longest, holding, pushed, withBytes};
 use answers::Told;
 
 // A line: its bytes are the first, as many as the count says.
@@ -44,7 +44,7 @@ impl Line {
     // The line with all digits of a number more: those before the last, and the last.
     fn with_number(self, n: u64) -> Line
         requires { ⌜ self .count + length (numeral n) ≤ longest ⌝ }
-        ensures { λ r. ⌜ r ≡ added self (numeral n) ⌝ }
+        ensures { λ r. ⌜ r ≡ withBytes self (numeral n) ⌝ }
         ensures { λ r. ⌜ r .count ≡ self .count + length (numeral n) ⌝ }
     {
         if n < 10 {

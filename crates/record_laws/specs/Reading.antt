@@ -51,39 +51,39 @@ token-reads (negsuc n) =
 -- ---- read, so written
 
 -- what bytes that say c are: spaces, or spaces and then the number
-abbrev pub Says : List ℕ → Content → Type 0
-Says bs Blank = bs ≡ replicate (length bs) space
-Says bs (Number z) = (k : ℕ) × (bs ≡ replicate k space ++ token z)
-Says bs Bad = Unit {0}
+abbrev pub SaysAll : List ℕ → Content → Type 0
+SaysAll bs Blank = bs ≡ replicate (length bs) space
+SaysAll bs (Number z) = (k : ℕ) × (bs ≡ replicate k space ++ token z)
+SaysAll bs Bad = Unit {0}
 
-after-space : (bs : List ℕ) (c : Content) → Says bs c → Says (space ∷ bs) c
+after-space : (bs : List ℕ) (c : Content) → SaysAll bs c → SaysAll (space ∷ bs) c
 after-space bs Blank h = ap (λ xs. space ∷ xs) h
 after-space bs (Number z) h = (suc (h .0), ap (λ xs. space ∷ xs) (h .1))
 after-space bs Bad h = tt
 
-after-minus : (bs : List ℕ) (m : ℕ) → 0 < m → numeral m ≡ bs → Says (minus ∷ bs) (Number (signed true m))
+after-minus : (bs : List ℕ) (m : ℕ) → 0 < m → numeral m ≡ bs → SaysAll (minus ∷ bs) (Number (signed true m))
 unfolding token
 after-minus bs zero p e = absurd (omega arith)
 after-minus bs (suc n) p e = (0, ap (λ xs. minus ∷ xs) (sym e))
 
-negative-says : (bs : List ℕ) → Says (minus ∷ bs) (negative bs)
+negative-says : (bs : List ℕ) → SaysAll (minus ∷ bs) (negative bs)
 unfolding negative
 negative-says [] = tt
-negative-says (b ∷ bs) = leading-by (Says (minus ∷ b ∷ bs)) tt true b bs (after-minus (b ∷ bs))
+negative-says (b ∷ bs) = leading-by (SaysAll (minus ∷ b ∷ bs)) tt true b bs (after-minus (b ∷ bs))
 
-alone-says : (bs : List ℕ) → Says (digit 0 ∷ bs) (alone bs)
+alone-says : (bs : List ℕ) → SaysAll (digit 0 ∷ bs) (alone bs)
 unfolding alone token numeral lastDigits
 alone-says [] = (0, refl)
 alone-says (b ∷ bs) = tt
 
-pub says : (bs : List ℕ) → Says bs (contentOf bs)
+pub says-all : (bs : List ℕ) → SaysAll bs (contentOf bs)
 unfolding contentOf token
-says [] = refl
-says (b ∷ bs) =
-    cond-by (Says (b ∷ bs)) (eqb b space)
-    (λ e. rw (eqb-true b space e) (after-space bs (contentOf bs) (says bs)))
-    (λ _. cond-by (Says (b ∷ bs)) (eqb b minus)
+says-all [] = refl
+says-all (b ∷ bs) =
+    cond-by (SaysAll (b ∷ bs)) (eqb b space)
+    (λ e. rw (eqb-true b space e) (after-space bs (contentOf bs) (says-all bs)))
+    (λ _. cond-by (SaysAll (b ∷ bs)) (eqb b minus)
     (λ e. rw (eqb-true b minus e) (negative-says bs))
-    (λ _. cond-by (Says (b ∷ bs)) (eqb b (digit 0))
+    (λ _. cond-by (SaysAll (b ∷ bs)) (eqb b (digit 0))
     (λ e. rw (eqb-true b (digit 0) e) (alone-says bs))
-    (λ _. leading-by (Says (b ∷ bs)) tt false b bs (λ m p e. (0, sym e)))))
+    (λ _. leading-by (SaysAll (b ∷ bs)) tt false b bs (λ m p e. (0, sym e)))))

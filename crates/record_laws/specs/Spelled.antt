@@ -14,7 +14,7 @@ use Rattle.record.specs.declared.Content.the-variants.{Blank, Number, Bad}
 use Rattle.record.specs.Spelling.{space, contentOf}
 use Rattle.record.specs.Spell.{token, spell, Spellable, ReadAs, IsSpelling}
 use Rattle.record.specs.Layout.{width}
-use Rattle.record_laws.specs.Reading.{token-fits, token-reads, after-spaces, Says, says}
+use Rattle.record_laws.specs.Reading.{token-fits, token-reads, after-spaces, SaysAll, says-all}
 
 -- each number of the range has a spelling of seven bytes
 pub spell-length : (z : ℤ) → Spellable z → length (spell z) ≡ width
@@ -31,7 +31,7 @@ spell-reads z = after-spaces (width - length (token z)) (token z) ∙ token-read
 pub one-spelling : (bs : List ℕ) (z : ℤ) → length bs ≡ width → contentOf bs ≡ Number z → (bs ≡ spell z) × Spellable z
 unfolding spell
 one-spelling bs z l e =
-    let (k, t) = subst (Says bs) e (says bs) in
+    let (k, t) = subst (SaysAll bs) e (says-all bs) in
     let n : length bs ≡ k + length (token z) = ap length t ∙ length-append (replicate k space) (token z) ∙ ap (λ i. i + length (token z)) (length-replicate k space) in
     let q : k ≡ width - length (token z) = omega arith in
     (t ∙ ap (λ i. replicate i space ++ token z) q, token-fits z .1 (omega arith))
@@ -44,7 +44,7 @@ spaces-blank (suc n) = spaces-blank n
 
 -- what is blank is spaces
 pub blank-spaces : (bs : List ℕ) → contentOf bs ≡ Blank → bs ≡ replicate (length bs) space
-blank-spaces bs e = subst (Says bs) e (says bs)
+blank-spaces bs e = subst (SaysAll bs) e (says-all bs)
 
 -- two numbers have two spellings
 pub spell-apart : (y z : ℤ) → spell y ≡ spell z → y ≡ z

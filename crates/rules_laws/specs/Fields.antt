@@ -45,13 +45,13 @@ wider s l h z w e =
 -- ---- a field by its rule
 
 -- a field that says c meets rule u
-pub record Meets (u : Rule) (c : Content) : Type 0 where
+pub record MeetsRule (u : Rule) (c : Content) : Type 0 where
   pub spelled : misspelled c ≡ false
   pub full : missing u c ≡ false
   pub bare : extra u c ≡ false
   pub ranged : outside u c ≡ false
 
-pub met : {k : Kind} {r : List Field} → Fit k r → (j : ℕ) → Meets (ruleAt (shape k r) j) (at r j)
+pub met : {k : Kind} {r : List Field} → Fit k r → (j : ℕ) → MeetsRule (ruleAt (shape k r) j) (at r j)
 met {k} {r} f j =
     record {
       spelled = tells-false _ (tells-bad r j) (f .spelled j);
@@ -63,12 +63,12 @@ met {k} {r} f j =
 abbrev field : Content → Field
 field c = record { content = c }
 
-blank-again : (c : Content) → Meets rule.Blank c → blank ≡ field c
+blank-again : (c : Content) → MeetsRule rule.Blank c → blank ≡ field c
 blank-again Blank m = refl
 blank-again (Number z) m = absurd (true≢false (m .bare))
 blank-again Bad m = absurd (true≢false (m .spelled))
 
-blanks : (rs : List Field) → ((j : ℕ) → Meets rule.Blank (at rs (suc j))) → replicate (length rs) blank ≡ rs
+blanks : (rs : List Field) → ((j : ℕ) → MeetsRule rule.Blank (at rs (suc j))) → replicate (length rs) blank ≡ rs
 blanks [] h = refl
 blanks (x ∷ rs) h = λ i. blank-again (x .content) (h 0) i ∷ blanks rs (λ j. h (suc j)) i
 
@@ -81,16 +81,16 @@ rest-again : {k : Kind} {r : List Field} → Fit k r → (n : ℕ) → length (r
 unfolding ruleAt shapeOf
 rest-again {k} {r} f n h =
     blanks (drop n r) (λ j.
-    subst₂ Meets (List·getD-eq-default (rulesIn k r) rule.Blank {n = n + j} (omega arith)) (ap (λ x. x .content) (sym (getD-drop n r j blank)))
+    subst₂ MeetsRule (List·getD-eq-default (rulesIn k r) rule.Blank {n = n + j} (omega arith)) (ap (λ x. x .content) (sym (getD-drop n r j blank)))
     (met f (suc (n + j))))
 
 -- a number meets the rule of a field that may not be blank
-needed : (b : Bool) (s : Sort) (z : ℤ) → Meets (neededIf b s) (Number z) → Meets (rule.Needed s) (Number z)
+needed : (b : Bool) (s : Sort) (z : ℤ) → MeetsRule (neededIf b s) (Number z) → MeetsRule (rule.Needed s) (Number z)
 needed true s z m = m
 needed false s z m = record { spelled = refl; full = refl; bare = refl; ranged = m .ranged }
 
 module _ (s : Sort) where
-  integer-again : (c : Content) → Meets (rule.Needed s) c → integer (integerOf c) ≡ field c
+  integer-again : (c : Content) → MeetsRule (rule.Needed s) c → integer (integerOf c) ≡ field c
   integer-again Blank m = absurd (true≢false (m .full))
   integer-again (Number z) m = refl
   integer-again Bad m = absurd (true≢false (m .spelled))
@@ -99,13 +99,13 @@ module _ (s : Sort) where
   abbrev UpTo : ℕ → Type 0
   UpTo n = Inside s (pos 0) (pos n)
 
-  natural-again : (n : ℕ) → UpTo n → (c : Content) → Meets (rule.Needed s) c → (number (natural c) ≡ field c) × (natural c ≤ n)
+  natural-again : (n : ℕ) → UpTo n → (c : Content) → MeetsRule (rule.Needed s) c → (number (natural c) ≡ field c) × (natural c ≤ n)
   natural-again n w Blank m = absurd (true≢false (m .full))
   natural-again n w (Number (pos k)) m = (refl, ltb-false n k (wider s (pos 0) (pos n) (pos k) w (m .ranged) .1))
   natural-again n w (Number (negsuc k)) m = absurd (true≢false (wider s (pos 0) (pos n) (negsuc k) w (m .ranged) .0))
   natural-again n w Bad m = absurd (true≢false (m .spelled))
 
-  cut-again : (n : ℕ) → UpTo n → (c : Content) → Meets (rule.Needed s) c → number (natural c % suc n) ≡ field c
+  cut-again : (n : ℕ) → UpTo n → (c : Content) → MeetsRule (rule.Needed s) c → number (natural c % suc n) ≡ field c
   cut-again n w c m =
       let a = natural-again n w c m in
       let e : natural c % suc n ≡ natural c = mod-eq-of-lt (omega arith) in
@@ -115,7 +115,7 @@ module _ (s : Sort) where
   abbrev Short : Type 0
   Short = Inside s (negsuc 32767) (pos 32767)
 
-  short-again : Short → (c : Content) → Meets (rule.Needed s) c → integer (shortOf (integerOf c)) ≡ field c
+  short-again : Short → (c : Content) → MeetsRule (rule.Needed s) c → integer (shortOf (integerOf c)) ≡ field c
   short-again w Blank m = absurd (true≢false (m .full))
   short-again w (Number z) m =
       let e = wider s (negsuc 32767) (pos 32767) z w (m .ranged) in
@@ -124,7 +124,7 @@ module _ (s : Sort) where
 
   -- fields in a row that have this rule, in front of others
   shorts-again : Short → (rs : List Field) (us : List Rule) (xs : List Field)
-      → ((j : ℕ) → Meets (getD (replicate (length rs) (rule.Needed s) ++ us) j rule.Blank) (at (rs ++ xs) (suc j)))
+      → ((j : ℕ) → MeetsRule (getD (replicate (length rs) (rule.Needed s) ++ us) j rule.Blank) (at (rs ++ xs) (suc j)))
       → map (λ (r : Field). integer (shortOf (integerOf (r .content)))) rs ≡ rs
   shorts-again w [] us xs m = refl
   shorts-again w (r ∷ rs) us xs m =
@@ -132,10 +132,10 @@ module _ (s : Sort) where
 
 -- a reference to an item of kind k, needed or not
 module _ (k : Kind) where
-  item-again : (c : Content) → Meets (rule.Needed (sort.Reference k)) c → number (byteOf c) ≡ field c
+  item-again : (c : Content) → MeetsRule (rule.Needed (sort.Reference k)) c → number (byteOf c) ≡ field c
   item-again = cut-again (sort.Reference k) 255 (refl, refl)
 
-  reference-again : (b : Bool) (c : Content) → Meets (neededIf b (sort.Reference k)) c → reference (refOf c) ≡ field c
+  reference-again : (b : Bool) (c : Content) → MeetsRule (neededIf b (sort.Reference k)) c → reference (refOf c) ≡ field c
   reference-again b Blank m = refl
   reference-again b (Number z) m = item-again (Number z) (needed b (sort.Reference k) z m)
   reference-again b Bad m = absurd (true≢false (m .spelled))
@@ -144,8 +144,8 @@ module _ (k : Kind) where
 term-again : (a b : Bool) (c e : Content)
     → (isNumber e ≡ true → a ≡ true)
     → (isNumber c ≡ true → b ≡ true)
-    → Meets (neededIf a sort.Coefficient) c
-    → Meets (neededIf b (sort.Reference kind.Sentence)) e
+    → MeetsRule (neededIf a sort.Coefficient) c
+    → MeetsRule (neededIf b (sort.Reference kind.Sentence)) e
     → termFields (termOf c e) ≡ field c ∷ field e ∷ []
 term-again a b Blank Blank p q m n = refl
 term-again a b Blank (Number z) p q m n = absurd (true≢false (rw (p refl) at m .full))
@@ -162,9 +162,9 @@ padded xs = xs ++ replicate (fields - length xs) blank
 
 -- a loop mark, after three fields: its length, its rounds and its back move are all blank, or only the rounds may be
 mark-again : (x y z : Field) (c d e : Content)
-    → Meets (neededIf (isNumber d || isNumber e) sort.LoopLength) c
-    → Meets (rule.Optional sort.Rounds) d
-    → Meets (neededIf (isNumber c) (sort.Reference kind.Move)) e
+    → MeetsRule (neededIf (isNumber d || isNumber e) sort.LoopLength) c
+    → MeetsRule (rule.Optional sort.Rounds) d
+    → MeetsRule (neededIf (isNumber c) (sort.Reference kind.Move)) e
     → padded (x ∷ y ∷ z ∷ markFields (markOf c d e)) ≡ x ∷ y ∷ z ∷ field c ∷ field d ∷ field e ∷ replicate (fields - 6) blank
 unfolding markOf
 mark-again x y z Blank Blank Blank m n o = refl
@@ -230,7 +230,7 @@ module _ (g : ℕ → Content) where
 
   -- a form with one part, of sort s
   part-again : (s : Sort) → UpTo s 255 → (n : ℕ) (f : Fit kind.Sentence (row (Number (pos n))))
-      → Meets (rule.Needed s) (g 2) → length (rulesIn kind.Sentence (row (Number (pos n)))) ≤ 2
+      → MeetsRule (rule.Needed s) (g 2) → length (rulesIn kind.Sentence (row (Number (pos n)))) ≤ 2
       → number n ∷ number (byteOf (g 2)) ∷ replicate (fields - 2) blank ≡ row (Number (pos n))
   part-again s w n f m l = λ i. number n ∷ cut-again s 255 w (g 2) m i ∷ rest-again f 2 l i
 

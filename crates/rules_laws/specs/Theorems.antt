@@ -43,14 +43,14 @@ pub refused : (c : Case) (bs : List ℕ) → isTaken (takenOf c bs .answer) ≡ 
 refused = refused-same
 
 -- a taken record is the next item of its kind, field for field, and all else held stays
-pub record Next (c d : Case) (bs : List ℕ) : Type 0 where
+pub record BecomesNext (c d : Case) (bs : List ℕ) : Type 0 where
   pub kind : Kind
   pub named : IsA kind bs
   pub item : listOf kind (itemsOf d) ≡ listOf kind (itemsOf c) ++ (itemOf kind (recordOf bs .fields) ∷ [])
   pub fields : rowOf kind (itemOf kind (recordOf bs .fields)) ≡ recordOf bs .fields
   pub others : (j : Kind) → (j ≡ kind → ⊥) → listOf j (itemsOf d) ≡ listOf j (itemsOf c)
 
-pub taken : (c : Case) (bs : List ℕ) → Sound c → isTaken (takenOf c bs .answer) ≡ true → Next c (takenOf c bs .case) bs
+pub taken : (c : Case) (bs : List ℕ) → Sound c → isTaken (takenOf c bs .answer) ≡ true → BecomesNext c (takenOf c bs .case) bs
 unfolding recordOf
 taken c bs s h =
     let t = taken-with c bs h in

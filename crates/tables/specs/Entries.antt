@@ -78,17 +78,17 @@ module _ {f : ℕ → ℕ → ℤ} {xs : List Counters} {p : ℕ} (b : Begun f x
 -- ---- a value for each counter
 
 -- v has the values f j
-pub record Has (v : Counters) (f : ℕ → ℤ) : Type 0 where
+pub record HasValues (v : Counters) (f : ℕ → ℤ) : Type 0 where
   pub each : (j : ℕ) → j < counters → valueAt v j ≡ f j
 
-pub has : {v : Counters} (f : ℕ → ℤ) → v ≡ vecOf f → Has v f
+pub has : {v : Counters} (f : ℕ → ℤ) → v ≡ vecOf f → HasValues v f
 has {v} f e = record { each = at-is v f (ap (λ (u : Counters). u .at) e) }
 
 pub values-same : (f g : ℕ → ℤ) → ((j : ℕ) → j < counters → f j ≡ g j) → vecOf f ≡ vecOf g
 values-same f g h = ap (λ (l : List ℤ). record { at = l }) (vec-same f g h)
 
 -- n times b more, where m is n, and a has the values f j and b the values g j
-module _ (n : ℤ) {m : ℤ} (e : m ≡ n) {a b : Counters} {f g : ℕ → ℤ} (p : Has a f) (q : Has b g) where
+module _ (n : ℤ) {m : ℤ} (e : m ≡ n) {a b : Counters} {f g : ℕ → ℤ} (p : HasValues a f) (q : HasValues b g) where
   pub sums-small : ((j : ℕ) → size (f j) + size n * size (g j) < 2 ^ 63) → (j : ℕ) → j < counters → size (valueAt a j) + size m * size (valueAt b j) < 2 ^ 63
   sums-small s j h = rw (e, p .each j h, q .each j h) (s j)
 

@@ -20,7 +20,7 @@ use Rattle.meaning.specs.Run.{moveAt, update}
 use Rattle.meaning_laws.specs.Given.{facts}
 use Rattle.tables.specs.Tables.{vecOf, slotOf}
 use Rattle.tables.specs.Reads.{move-is, adds-none}
-use Rattle.tables.specs.Entries.{Has, has, values-same, sums-small, sums-are}
+use Rattle.tables.specs.Entries.{HasValues, has, values-same, sums-small, sums-are}
 
 -- the move that r names has number t; v has the values f j, and u the updates of the move that is read
 module _ {c : Case} (s : Sound c) {t : ℕ} (r : Ref) (e : t ≡ slotOf r) {v : Counters} (f : ℕ → ℤ) (p : v ≡ vecOf f) where
@@ -32,7 +32,7 @@ module _ {c : Case} (s : Sound c) {t : ℕ} (r : Ref) (e : t ≡ slotOf r) {v : 
   no-more h = p ∙ values-same f (λ j. f j +ℤ adds j) (λ j k. sym (ap (λ z. f j +ℤ z) (adds-none s r e h j) ∙ +ℤ-idr (f j)))
 
   module _ {u : Counters} (d : Move) (h : t < roomOf kind.Move) (q : u .at ≡ getD (c .moves) t d .updates .at) where
-    updates-have : Has u adds
+    updates-have : HasValues u adds
     updates-have = record { each = λ j k. ap (λ l. getD l j (pos 0)) q ∙ ap (λ (m : Move). update m j) (move-is s r e d h) }
 
     pub more-small : ((j : ℕ) → size (f j) ≤ 2 ^ 62) → (j : ℕ) → j < counters → size (valueAt v j) + size (pos 1) * size (valueAt u j) < 2 ^ 63

@@ -22,7 +22,7 @@ use Rattle.rules.specs.Rules.{markAt, Closed}
 use Rattle.meaning.specs.Run.{Moment, Spot, Step, Way, here, stretch, goesAgain, next, spot, wayTaken, placeAt}
 use Rattle.meaning.specs.Judged.{wayIn, wayBack, waysInto, waysOf}
 use Rattle.meaning_laws.specs.Facts.{Laid, Facts}
-use Rattle.meaning_laws.specs.Walk.{at, next-on, next-back, next-out, in-stretch, last-round}
+use Rattle.meaning_laws.specs.Walk.{spotAt, next-on, next-back, next-out, in-stretch, last-round}
 use Rattle.meaning_laws.specs.Stays.{next-by}
 use Rattle.verdict.specs.declared.Rounds.{Rounds}
 use Rattle.verdict.specs.declared.Rounds.the-variants as rounds
@@ -156,31 +156,31 @@ module _ (ps : List Place) where
     -- ---- that it comes there
 
     -- from the first place of a stretch to step o of round r
-    comes-to : (q : ℕ) → (m : Moment) × (spot ps m ≡ at q 0 0) → (r o : ℕ) → ((i : ℕ) → i < r → goesAgain (markAt ps q) i ≡ true) →
-        o < stretch (markAt ps q) → (m : Moment) × (spot ps m ≡ at q o r)
+    comes-to : (q : ℕ) → (m : Moment) × (spot ps m ≡ spotAt q 0 0) → (r o : ℕ) → ((i : ℕ) → i < r → goesAgain (markAt ps q) i ≡ true) →
+        o < stretch (markAt ps q) → (m : Moment) × (spot ps m ≡ spotAt q o r)
     comes-to q (m, e) r o a l = (m + (r * stretch (markAt ps q) + o), in-stretch ps q m (laid .long q) e r o a l)
 
     -- and out of the stretch of place p, where place p is its last and not the plan's
-    leaves : (p : ℕ) → suc p < length ps → end p ≤ suc p → (m : Moment) × (spot ps m ≡ at (firstOf ps p) 0 0) →
-        (m : Moment) × (next ps (spot ps m) ≡ record { to = at (suc p) 0 0; back = false })
+    leaves : (p : ℕ) → suc p < length ps → end p ≤ suc p → (m : Moment) × (spot ps m ≡ spotAt (firstOf ps p) 0 0) →
+        (m : Moment) × (next ps (spot ps m) ≡ record { to = spotAt (suc p) 0 0; back = false })
     leaves p h l c =
         let q = firstOf ps p in
         let w : q + stretch (markAt ps q) ≡ suc p = omega (arith, first-in p) in
         let (k, a, z) = last-round (markAt ps q) (λ d. omega (arith, laid .last q d)) in
         let (m, e) = comes-to q c k (stretch (markAt ps q) - 1) a (omega (arith, laid .long q)) in
-        (m, ap (next ps) e ∙ next-out ps q (stretch (markAt ps q) - 1) k (omega arith) z ∙ ap (λ p. record { to = at p 0 0; back = false }) w)
+        (m, ap (next ps) e ∙ next-out ps q (stretch (markAt ps q) - 1) k (omega arith) z ∙ ap (λ p. record { to = spotAt p 0 0; back = false }) w)
 
     -- so to the stretch of each place
-    begins : (p : ℕ) → p < length ps → (m : Moment) × (spot ps m ≡ at (firstOf ps p) 0 0)
+    begins : (p : ℕ) → p < length ps → (m : Moment) × (spot ps m ≡ spotAt (firstOf ps p) 0 0)
     unfolding spot firstOf
     begins zero h = (0, refl)
     begins (suc p) h =
         let c = begins p (omega arith) in
-        first-by (λ q. (m : Moment) × (spot ps m ≡ at q 0 0)) p (λ l. c)
+        first-by (λ q. (m : Moment) × (spot ps m ≡ spotAt q 0 0)) p (λ l. c)
         (λ l. let (m, e) = leaves p h l c in (suc m, ap (λ (y : Step). y .to) e))
 
     -- and to each place in each round
-    comes : (p : ℕ) → p < length ps → (r : ℕ) → In (roundsOf (loopOf ps p)) r → (m : Moment) × (spot ps m ≡ at (firstOf ps p) (p - firstOf ps p) r)
+    comes : (p : ℕ) → p < length ps → (r : ℕ) → In (roundsOf (loopOf ps p)) r → (m : Moment) × (spot ps m ≡ spotAt (firstOf ps p) (p - firstOf ps p) r)
     comes p h r i = comes-to (firstOf ps p) (begins p h) r (p - firstOf ps p) (again-in (loopOf ps p) r i) (omega (arith, first-in p, first-le p))
 
     -- a step takes its way

@@ -20,9 +20,9 @@ use Rattle.rules.specs.Rules.{markAt, Closed}
 use Rattle.meaning.specs.Run.{Moment, Spot, Step, here, stretch, goesAgain, next, spot}
 use Rattle.meaning_laws.specs.Facts.{Laid}
 use Rattle.meaning_laws.specs.Counting.{total, Gets, splice}
-use Rattle.meaning_laws.specs.Walk.{at, next-on, next-back, next-out}
+use Rattle.meaning_laws.specs.Walk.{spotAt, next-on, next-back, next-out}
 use Rattle.meaning_laws.specs.Stays.{in-plan}
-use Rattle.meaning_laws.specs.Between.{later, one-way}
+use Rattle.meaning_laws.specs.Between.{is-later, one-way}
 use Rattle.verdict.specs.declared.Rounds.{Rounds}
 use Rattle.verdict.specs.declared.Rounds.the-variants as rounds
 use Rattle.verdict.specs.Labels.{Label}
@@ -108,17 +108,17 @@ module _ (x : Items) (laid : Laid (x .places)) (closed : Closed x) (l : ℕ → 
 
     -- after its last place in round r
     abbrev past : ℕ → Spot
-    past r = next ps (at q (n - 1) r) .to
+    past r = next ps (spotAt q (n - 1) r) .to
 
     -- on in the stretch, and from its last place
-    on-best : {f f′ p o r : ℕ} {v : Best} → f′ ≤ suc f → q + o ≡ p → o + 1 < n → BestAt f (at q (o + 1) r) v → BestAt f′ (at q o r) (step (l p) v)
+    on-best : {f f′ p o r : ℕ} {v : Best} → f′ ≤ suc f → q + o ≡ p → o + 1 < n → BestAt f (spotAt q (o + 1) r) v → BestAt f′ (spotAt q o r) (step (l p) v)
     on-best {o = o} {r = r} w e h = at-step w e (ap (λ (y : Step). y .to) (next-on ps q o r h))
 
-    out-best : {f f′ p o r : ℕ} {v : Best} → f′ ≤ suc f → q + o ≡ p → o + 1 ≡ n → BestAt f (past r) v → BestAt f′ (at q o r) (step (l p) v)
-    out-best {o = o} {r = r} w e h = let c : o ≡ n - 1 = omega arith in at-step w e (ap (λ i. next ps (at q i r) .to) c)
+    out-best : {f f′ p o r : ℕ} {v : Best} → f′ ≤ suc f → q + o ≡ p → o + 1 ≡ n → BestAt f (past r) v → BestAt f′ (spotAt q o r) (step (l p) v)
+    out-best {o = o} {r = r} w e h = let c : o ≡ n - 1 = omega arith in at-step w e (ap (λ i. next ps (spotAt q i r) .to) c)
 
     -- the rest of a round
-    rest-best : {f f′ r : ℕ} {v : Best} → f′ ≤ suc f → BestAt f (past r) v → (j p o : ℕ) → q + o ≡ p → o + suc j ≡ n → BestAt f′ (at q o r) (chain l p (suc j) v)
+    rest-best : {f f′ r : ℕ} {v : Best} → f′ ≤ suc f → BestAt f (past r) v → (j p o : ℕ) → q + o ≡ p → o + suc j ≡ n → BestAt f′ (spotAt q o r) (chain l p (suc j) v)
     unfolding chain
     rest-best w t zero p o e d = out-best w e d t
     rest-best {f = f} w t (suc j) p o e d = on-best w e (omega arith) (rest-best {f′ = f} (omega arith) t j (suc p) (o + 1) (omega arith) (omega arith))
@@ -135,7 +135,7 @@ module _ (x : Items) (laid : Laid (x .places)) (closed : Closed x) (l : ℕ → 
         (d ∙ ap (λ (y : Step). y .to) (next-back ps q (n - 1) r (omega arith) (a r (omega arith)))))
 
     -- rounds up to i, where w is the best sum after the stretch
-    counted-best : {w : Best} → ((f : ℕ) → BestAt f (at (q + n) 0 0) w) → (i : ℕ) → ((r : ℕ) → r < i → goesAgain k r ≡ true) → goesAgain k i ≡ false →
+    counted-best : {w : Best} → ((f : ℕ) → BestAt f (spotAt (q + n) 0 0) w) → (i : ℕ) → ((r : ℕ) → r < i → goesAgain k r ≡ true) → goesAgain k i ≡ false →
         {f : ℕ} (r : ℕ) → r ≤ i → BestAt f (past r) (laps l q n (i - r) w)
     counted-best t i a z {f} r h =
         let g = laid .long q in
@@ -160,7 +160,7 @@ module _ (x : Items) (laid : Laid (x .places)) (closed : Closed x) (l : ℕ → 
     pastBest (rounds.UpTo i) r w = laps l q n (i - r) w
     pastBest rounds.Ever r w = limit (chain l q n best.None) (wholeSum l q n)
 
-    past-best : {w : Best} → ((f : ℕ) → BestAt f (at (q + n) 0 0) w) → (j : LoopMark) → k ≡ j → {f : ℕ} (r : ℕ) → In (roundsOf j) r → BestAt f (past r) (pastBest (roundsOf j) r w)
+    past-best : {w : Best} → ((f : ℕ) → BestAt f (spotAt (q + n) 0 0) w) → (j : LoopMark) → k ≡ j → {f : ℕ} (r : ℕ) → In (roundsOf j) r → BestAt f (past r) (pastBest (roundsOf j) r w)
     past-best t mark.None e = counted-best t 0 (λ r h. absurd (omega arith)) (rw e)
     past-best t (mark.Counted m i b) e = counted-best t (i - 1) (λ r h. rw e (lt-ltb (r + 1) i (omega arith))) (rw e (le-ltb (i - 1 + 1) i (omega arith)))
     past-best t (mark.Endless m b) e = λ r h. endless-best (λ r. rw e) r
@@ -186,7 +186,7 @@ module _ (x : Items) (laid : Laid (x .places)) (closed : Closed x) (l : ℕ → 
       up-to : (i : ℕ) → Flags (rounds.UpTo i) 0 → Flags (rounds.UpTo i) i → (r : ℕ) → r ≤ i → Flags (rounds.UpTo i) r
       up-to i u v r h =
           one-way (λ c. isReached z (chain l p j (laps l q n c w)) ≡ true) (laps-one-way l q n w z p j)
-          (later 0 0 (i - r) (omega arith) .1) (later 0 (i - r) i (omega arith) .1) a (rw sub-self at v) (rw sub-zero at u)
+          (is-later 0 0 (i - r) (omega arith) .1) (is-later 0 (i - r) i (omega arith) .1) a (rw sub-self at v) (rw sub-zero at u)
 
       all-rounds : (i : LoopMark) → Flags (roundsOf i) 0 → Flags (roundsOf i) (repeats i) → (r : ℕ) → In (roundsOf i) r → Flags (roundsOf i) r
       all-rounds mark.None = up-to 0
@@ -198,9 +198,9 @@ module _ (x : Items) (laid : Laid (x .places)) (closed : Closed x) (l : ℕ → 
   -- y has the best sums at step o of the stretch that place q begins, in its first round and in its last
   record Fits (q o : ℕ) (y : Front) : Type 0 where
     after : Best
-    next : (f : ℕ) → BestAt f (at (q + n q) 0 0) after
-    first : (f : ℕ) → BestAt f (at q o 0) (y .first)
-    last : (f : ℕ) → BestAt f (at q o (repeats (k q))) (y .last)
+    next : (f : ℕ) → BestAt f (spotAt (q + n q) 0 0) after
+    first : (f : ℕ) → BestAt f (spotAt q o 0) (y .first)
+    last : (f : ℕ) → BestAt f (spotAt q o (repeats (k q))) (y .last)
 
   -- on in the stretch
   fits-on : {q p o : ℕ} {y : Front} → q + o ≡ p → o + 1 < n q → Fits q (o + 1) y → Fits q o (record { first = step (l p) (y .first); last = step (l p) (y .last) })
@@ -226,7 +226,7 @@ module _ (x : Items) (laid : Laid (x .places)) (closed : Closed x) (l : ℕ → 
         last = λ f. out-best q {f = f} (omega arith) e h (rw (on-last q (k q) (y .first)) (past-best q out (k q) refl (repeats (k q)) (in-last (k q))));
       }
     where
-      out : (f : ℕ) → BestAt f (at (q + n q) 0 0) (y .first)
+      out : (f : ℕ) → BestAt f (spotAt (q + n q) 0 0) (y .first)
       out = let c : q + n q ≡ suc p = omega arith in rw c (t .first)
 
   fits : (d p o : ℕ) → firstOf ps p + o ≡ p → p + d ≡ length ps → Fits (firstOf ps p) o (front l ps p d)
@@ -264,14 +264,14 @@ module _ (x : Items) (laid : Laid (x .places)) (closed : Closed x) (l : ℕ → 
     j = q + n q - suc p
 
     -- of the moments at place p in round r
-    tells : {v : Best} (r : ℕ) → ((f : ℕ) → BestAt f (at q o r) v) → (m : Moment) → here (spot ps m) ≡ p → spot ps m .round ≡ r → (isReached z v ≡ true) ↔ Gets labels z m
+    tells : {v : Best} (r : ℕ) → ((f : ℕ) → BestAt f (spotAt q o r) v) → (m : Moment) → here (spot ps m) ≡ p → spot ps m .round ≡ r → (isReached z v ≡ true) ↔ Gets labels z m
     tells r b m e d = (λ t. b 0 m there .reached z t, λ g. b (suc (g .n)) m there .enough z g (omega arith))
       where
-        there : spot ps m ≡ at q o r
+        there : spot ps m ≡ spotAt q o r
         there =
             let a : spot ps m .first ≡ q = first-is ps laid m ∙ ap (firstOf ps) e in
             let c : spot ps m .step ≡ o = omega arith in
-            ap₂ (λ i j. at i j (spot ps m .round)) a c ∙ ap (at q o) d
+            ap₂ (λ i j. spotAt i j (spot ps m .round)) a c ∙ ap (spotAt q o) d
 
     module _ {y : Front} (t : Fits q o y) where
       in-round : (r : ℕ) → In (roundsOf (k q)) r → (m : Moment) → here (spot ps m) ≡ p → spot ps m .round ≡ r →

@@ -25,7 +25,7 @@ use Rattle.verdict.specs.declared.Throughout.{Throughout}
 use Rattle.verdict.specs.Rounds.{firstOf, loopOf, agree}
 use Rattle.verdict.specs.Verdict.{isAlways, isNever}
 use Rattle.maxplus.specs.declared.Ends.{Ends}
-use Rattle.maxplus.specs.Numbers.{nth, stepBy, aroundBy}
+use Rattle.maxplus.specs.Numbers.{entryAt, stepBy, aroundBy}
 use Rattle.maxplus.specs.Bounds.{Light}
 use Rattle.maxplus.specs.Shows.{StepsAre}
 use Rattle.tables.specs.Entries.{first-at}
@@ -45,7 +45,7 @@ use Rattle.marks.proofs.until_wrong.Tie as tie
 abbrev Inv-loop : tie.InvT-loop
 Inv-loop i a b bound c firsts steps z n wrong₀ first₀ last₀ p₀ wrong first last p =
     (p ≤ length (itemsOf c .places))
-    × ((l : ℕ → Label) → Light l → StepsAre l (nth (steps .stops)) (nth (steps .goes)) →
+    × ((l : ℕ → Label) → Light l → StepsAre l (entryAt (steps .stops)) (entryAt (steps .goes)) →
     (Shown (itemsOf c) l p (toZ w64 first) (toZ w64 last))
     × (wrong ≡ offFrom (isRight (itemsOf c) i (untilsOf (itemsOf c) l (toZ w32 bound))) (length (itemsOf c .places)) p))
 
@@ -61,10 +61,10 @@ module _ (c : tie.After-steps-of Inv-loop μ-loop) where
 
   -- the steps of the places
   abbrev s : ℕ → ℤ
-  s = nth (c .steps-of .result .stops)
+  s = entryAt (c .steps-of .result .stops)
 
   abbrev g : ℕ → ℤ
-  g = nth (c .steps-of .result .goes)
+  g = entryAt (c .steps-of .result .goes)
 
   -- their labels
   abbrev labels : ℕ → Label

@@ -11,7 +11,7 @@ use Rattle.items.specs.Lists.{roomOf}
 use Rattle.rounds.specs.Last.{mostRounds}
 use Rattle.maxplus.specs.declared.Round.{Round}
 use Rattle.maxplus.specs.declared.Ends.{Ends}
-use Rattle.maxplus.specs.Numbers.{nth, roundBy, powerBy, limitBy}
+use Rattle.maxplus.specs.Numbers.{entryAt, roundBy, powerBy, limitBy}
 use Rattle.maxplus.specs.Over.{round-slight}
 use Rattle.maxplus.proofs.around.Statement.{statement}
 use Rattle.maxplus.proofs.around.Tie as tie
@@ -25,7 +25,7 @@ module _ (c : tie.Start) where
 
   -- a round of n places
   abbrev round : ℕ → Round
-  round n = roundBy (nth (c .args .stops .now)) (nth (c .args .goes .now)) (c .args .q) n
+  round n = roundBy (entryAt (c .args .stops .now)) (entryAt (c .args .goes .now)) (c .args .q) n
 
 enum-told : tie.Need-enum-told
 enum-told c = search needs

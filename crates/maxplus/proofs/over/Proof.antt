@@ -10,7 +10,7 @@ use mir.Facts.{toZ-ofZ}
 use Rattle.laws.specs.Sizes.{size, add-fits, add-read}
 use Rattle.laws.specs.Down.{down-none, down-more, down-all}
 use Rattle.maxplus.specs.declared.Round.{Round}
-use Rattle.maxplus.specs.Numbers.{nth, stepBy, withinBy, sumBy}
+use Rattle.maxplus.specs.Numbers.{entryAt, stepBy, withinBy, sumBy}
 use Rattle.maxplus.specs.Over.{within-size, sum-size}
 use Rattle.maxplus.proofs.over.Statement.{statement}
 use Rattle.maxplus.proofs.over.Tie as tie
@@ -19,8 +19,8 @@ abbrev Inv-loop : tie.InvT-loop
 Inv-loop stops goes p n within₀ sum₀ i₀ within sum i =
     (p ≤ i)
     × ((i ≤ p + n)
-    × ((toZ w64 within ≡ withinBy (nth stops) (nth goes) i (p + n - i))
-    × (toZ w64 sum ≡ sumBy (nth goes) i (p + n - i))))
+    × ((toZ w64 within ≡ withinBy (entryAt stops) (entryAt goes) i (p + n - i))
+    × (toZ w64 sum ≡ sumBy (entryAt goes) i (p + n - i))))
 
 abbrev μ-loop : tie.MeasureT-loop
 μ-loop stops goes p n within₀ sum₀ i₀ within sum i = i
@@ -28,10 +28,10 @@ abbrev μ-loop : tie.MeasureT-loop
 module _ (c : tie.Start Inv-loop μ-loop) where
   -- the tables
   abbrev stop : ℕ → ℤ
-  stop = nth (c .args .stops .now)
+  stop = entryAt (c .args .stops .now)
 
   abbrev go : ℕ → ℤ
-  go = nth (c .args .goes .now)
+  go = entryAt (c .args .goes .now)
 
   -- the end of the places
   abbrev e : ℕ

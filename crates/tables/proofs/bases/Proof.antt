@@ -20,7 +20,7 @@ use Rattle.meaning_laws.specs.Given.{facts}
 use Rattle.verdict.specs.Rounds.{firstOf, loopOf}
 use Rattle.verdict.specs.Forward.{ways, drift, repeats, base}
 use Rattle.tables.specs.Tables.{vecOf}
-use Rattle.tables.specs.Entries.{first-at, values-at, Has, has, values-same, sums-small, sums-are, Begun, begin, go-on, finish}
+use Rattle.tables.specs.Entries.{first-at, values-at, HasValues, has, values-same, sums-small, sums-are, Begun, begin, go-on, finish}
 use Rattle.tables.specs.WaySums.{roundsBefore, base-is, rounds-done, rounds-kept}
 use Rattle.tables.specs.Sizes.{start-small, ways-size, times-size, rounds-before-size}
 use Rattle.tables.specs.Stretches.{first-below, mark-is, end-is, end-in}
@@ -65,13 +65,13 @@ module _ (i : tie.In-loop Inv-loop μ-loop) where
   read-below = first-below (t .pre .0) p below read-is
 
   -- what the ways up to it and the rounds before it add, and what a round of its stretch adds
-  ways-have : Has (getD (t .args .t3 .at) p (record { at = [] })) (λ j. ways x j p)
+  ways-have : HasValues (getD (t .args .t3 .at) p (record { at = [] })) (λ j. ways x j p)
   ways-have = has _ (values-at (roomOf kind.Place) (ways x) (t .pre .2) p (record { at = [] }) below)
 
-  rounds-have : Has (l .loop .r) (λ j. roundsBefore x (startOf x) j p)
+  rounds-have : HasValues (l .loop .r) (λ j. roundsBefore x (startOf x) j p)
   rounds-have = has _ (l .loop .inv .1)
 
-  drift-has : Has (getD (t .args .t4 .at) p (record { at = [] })) (λ j. drift x j q)
+  drift-has : HasValues (getD (t .args .t4 .at) p (record { at = [] })) (λ j. drift x j q)
   drift-has =
       has _
       (values-at (length (x .places)) (λ j n. drift x j (firstOf (x .places) n)) (t .pre .3) p (record { at = [] })

@@ -19,7 +19,7 @@ use Rattle.verdict.specs.Rounds.{firstOf, loopOf}
 use Rattle.verdict.specs.Forward.{ways, drift}
 use Rattle.counters.specs.declared.Counters.{Counters}
 use Rattle.tables.specs.Tables.{vecOf, slotOf}
-use Rattle.tables.specs.Entries.{first-at, values-at, Has, has, sums-small, sums-are, Begun, begin, go-on, finish}
+use Rattle.tables.specs.Entries.{first-at, values-at, HasValues, has, sums-small, sums-are, Begun, begin, go-on, finish}
 use Rattle.tables.specs.Moves.{more, more-small, no-more}
 use Rattle.tables.specs.WaySums.{waysWithin}
 use Rattle.tables.specs.Sizes.{ends-size, stretch-size}
@@ -72,13 +72,13 @@ module _ (c : tie.After-stretch Inv-loop μ-loop) where
   abbrev sumAt : ℕ → Counters
   sumAt n = getD (t i .args .t3 .at) n (record { at = [] })
 
-  last-has : Has (sumAt (read i + c .stretch .result - 1)) (λ j. ways (x i) j (q i + stretch (loopOf (x i .places) (p i)) - 1))
+  last-has : HasValues (sumAt (read i + c .stretch .result - 1)) (λ j. ways (x i) j (q i + stretch (loopOf (x i .places) (p i)) - 1))
   last-has =
       has _
       (values-at (roomOf kind.Place) (ways (x i)) (t i .pre .2) (read i + c .stretch .result - 1) (record { at = [] }) (omega (arith, ends))
       ∙ ap (λ n. vecOf (λ j. ways (x i) j (n - 1))) (end-is (t i .pre .0) (p i) (below i) (read-is i) (c .stretch .ensures)))
 
-  first-has : Has (sumAt (read i)) (λ j. ways (x i) j (q i))
+  first-has : HasValues (sumAt (read i)) (λ j. ways (x i) j (q i))
   first-has =
       has _
       (values-at (roomOf kind.Place) (ways (x i)) (t i .pre .2) (read i) (record { at = [] }) (read-below i)

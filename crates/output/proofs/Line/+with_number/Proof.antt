@@ -8,7 +8,7 @@ use borrow.Fn.Kinds.{In}
 use borrow.Fn.PlainCycle.{Measures, is, falls, and}
 use Rattle.record.specs.Spelling.{digit}
 use Rattle.record.specs.Spell.{numeral}
-use Rattle.output.specs.Line.{added}
+use Rattle.output.specs.Line.{withBytes}
 use Rattle.output.proofs.Laws.{one-digit, more-digits, added-append}
 use Rattle.output.proofs.Line.with_number.Reads as with-number
 use Rattle.output.proofs.Line.with_number.Kinds as with-number-kinds
@@ -35,7 +35,7 @@ module _ (t : ℕ) where
   with-digit-requires c κs = omega (arith, ap length (one-digit (c .before .args .n) (omega arith)))
 
   returns : with-number-lts.Need-returns (with-digit.Asked, with-digit.Learnt, with-number-below t, with-number.Post) (with-number-at t) with-number.Post
-  unfolding added
+  unfolding withBytes
   returns c = rw (one-digit (c .before .before .args .n) (omega arith)) (c .with-digit .ensures)
 
   with-number-requires : with-number-lts.Need-with-number-requires (with-digit.Asked, with-digit.Learnt, with-number-below t, with-number.Post) (with-number-at t) with-number.Post
@@ -47,7 +47,7 @@ module _ (t : ℕ) where
   with-digit-requires-2 c κs = omega (arith, longer (c .before .before .args .n) (omega arith))
 
   returns-2 : with-number-lts.Need-returns-2 (with-digit.Asked, with-digit.Learnt, with-number-below t, with-number.Post) (with-number-at t) with-number.Post
-  unfolding added
+  unfolding withBytes
   returns-2 c =
       let n = c .before .before .before .args .n in
       (rw (more-digits n (omega arith), added-append) (cc), omega (arith, longer n (omega arith)))
