@@ -53,16 +53,16 @@ cut-first (suc k) (suc j) (suc n) (suc m) (b ∷ bs) e h l =
     (omega (arith, ap length d, length-drop recordLength (b ∷ take j bs)))
     (omega (arith, length-drop recordLength (b ∷ bs))))
 
--- ---- the run
+-- ---- collecting
 
 -- where there is no room for k records more, no record after them is looked at
-run-first : (k : ℕ) (rs : List (List ℕ)) (c : Case) (m : ℕ) → Sound c → room < itemCount (itemsOf c) + k → collectedFrom c m (take k rs) ≡ collectedFrom c m rs
+collected-first : (k : ℕ) (rs : List (List ℕ)) (c : Case) (m : ℕ) → Sound c → room < itemCount (itemsOf c) + k → collectedFrom c m (take k rs) ≡ collectedFrom c m rs
 unfolding collectedFrom
-run-first zero rs c m s h = absurd (omega (arith, within c s))
-run-first (suc k) [] c m s h = refl
-run-first (suc k) (b ∷ rs) c m s h =
+collected-first zero rs c m s h = absurd (omega (arith, within c s))
+collected-first (suc k) [] c m s h = refl
+collected-first (suc k) (b ∷ rs) c m s h =
     go (isTaken (takenOf c b .answer)) _
-    (λ e. run-first k rs (takenOf c b .case) (m + 1) (sound-kept c b s) (omega (arith, size-more c b rs (taken-with c b e) (sound-is-kept s))))
+    (λ e. collected-first k rs (takenOf c b .case) (m + 1) (sound-kept c b s) (omega (arith, size-more c b rs (taken-with c b e) (sound-is-kept s))))
   where
     go : {A : Type 0} (t : Bool) (z : A) {x y : A} → (t ≡ true → x ≡ y) → cond t x z ≡ cond t y z
     go true z f = f refl
@@ -73,4 +73,4 @@ pub bounded : (bs : List ℕ) → answerOf (take enough bs) ≡ answerOf bs
 unfolding answerOf collectedOf cut
 bounded bs =
     ap (λ rs. answerAfter (collectedFrom emptyCase 0 rs)) (cut-first (suc room) enough (length (take enough bs)) (length bs) bs refl (omega arith) (omega arith))
-    ∙ ap answerAfter (run-first (suc room) (cut bs) emptyCase 0 sound-empty (omega arith))
+    ∙ ap answerAfter (collected-first (suc room) (cut bs) emptyCase 0 sound-empty (omega arith))

@@ -187,7 +187,7 @@ module _ (c : Case) (s : Sound c) where
 
 -- ---- a file
 
--- the answer to a run over records rs, where the case c holds the m records taken before
+-- the answer where records rs are collected, and the case c holds the m records taken before
 from-here : (rs : List (List ℕ)) (c : Case) (m : ℕ) → Sound c → m ≡ itemCount (itemsOf c) → Listed (answerAfter (collectedFrom c m rs))
 unfolding collectedFrom
 from-here [] c m s e = judged (verdict (itemsOf c) (startOf (itemsOf c))) (verdict-fits c s)

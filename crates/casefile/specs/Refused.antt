@@ -58,7 +58,7 @@ one-refusal {ps} {rs} {k} {j} {a} {b} r q =
     neither-less : {m n : ℕ} → (m < n → ⊥) → (n < m → ⊥) → m ≡ n
     neither-less l g = omega arith
 
--- a run over records that ends with a refusal: what it tells, and the case that it leaves
+-- collecting records, where one is refused: what it tells, and the case that it leaves
 stops : (rs ps : List (List ℕ)) (c : Case) (m : ℕ) → Sound c → itemsOf c ≡ spelledBy ps → isTaken (collectedFrom c m rs .answer) ≡ false →
     (k : ℕ) × Refused ps rs k (collectedFrom c m rs .answer) × (collectedFrom c m rs .taken ≡ m + k) × (itemsOf (collectedFrom c m rs .case) ≡ spelledBy (ps ++ take k rs))
 unfolding collectedFrom

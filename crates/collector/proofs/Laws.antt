@@ -121,17 +121,17 @@ step c m rs k r a t = cond t (collectedFrom (cond t (stored c k r) c) (m + 1) rs
 abbrev after : ℕ → List (List ℕ) → Result → Bool → Collected
 after m rs x t = cond t (collectedFrom (x .case) (m + 1) rs) (record { case = x .case; answer = x .answer; taken = m })
 
-pub run-next : (c : Case) (m : ℕ) (bs : List ℕ) (rs : List (List ℕ)) (k : Kind) (r : Record) (a : Answer) (t : Bool) → headOf bs ≡ Of k → r ≡ recordOf bs → a ≡ recordAnswer (c .count) (c .derived .loops) k r → isTaken a ≡ t → collectedFrom c m (bs ∷ rs) ≡ step c m rs k r a t
+pub collected-next : (c : Case) (m : ℕ) (bs : List ℕ) (rs : List (List ℕ)) (k : Kind) (r : Record) (a : Answer) (t : Bool) → headOf bs ≡ Of k → r ≡ recordOf bs → a ≡ recordAnswer (c .count) (c .derived .loops) k r → isTaken a ≡ t → collectedFrom c m (bs ∷ rs) ≡ step c m rs k r a t
 unfolding collectedFrom takenOf takenAs
-run-next c m bs rs k r a t ek er ea et =
+collected-next c m bs rs k r a t ek er ea et =
     ap (λ h. after m rs (takenBy c h bs) (isTaken (takenBy c h bs .answer))) ek
     ∙ ap (λ x. after m rs (takenAs c k x) (isTaken (takenAs c k x .answer))) (sym er)
     ∙ ap (λ x. step c m rs k r x (isTaken x)) (sym ea)
     ∙ ap (step c m rs k r a) et
 
-pub run-refused : (c : Case) (m : ℕ) (bs : List ℕ) (rs : List (List ℕ)) (a : Answer) → headOf bs ≡ Refused a → collectedFrom c m (bs ∷ rs) ≡ record { case = c; answer = a; taken = m }
+pub collected-refused : (c : Case) (m : ℕ) (bs : List ℕ) (rs : List (List ℕ)) (a : Answer) → headOf bs ≡ Refused a → collectedFrom c m (bs ∷ rs) ≡ record { case = c; answer = a; taken = m }
 unfolding collectedFrom takenOf
-run-refused c m bs rs a e =
+collected-refused c m bs rs a e =
     let y : Result = record { case = c; answer = a } in
     ap (λ h. after m rs (takenBy c h bs) (isTaken (takenBy c h bs .answer))) e
     ∙ ap (after m rs y) (fair bs (Refused a) e)

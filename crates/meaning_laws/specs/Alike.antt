@@ -170,6 +170,6 @@ all-self [] = λ c d m s. refl
 all-self (b ∷ rs) = alike-cons b b rs rs (alike-self b) (all-self rs)
 
 -- with either of two records that are taken alike, the others are taken alike
-pub same-run : (ps qs : List (List ℕ)) (b e : List ℕ) → Alike b e → (c : Case) (m : ℕ) →
+pub same-collected : (ps qs : List (List ℕ)) (b e : List ℕ) → Alike b e → (c : Case) (m : ℕ) →
     collectedFrom c m (ps ++ (b ∷ qs)) .answer ≡ collectedFrom c m (ps ++ (e ∷ qs)) .answer
-same-run ps qs b e a c m = alike-on ps (b ∷ qs) (e ∷ qs) (alike-cons b e qs qs a (all-self qs)) c c m (refl, refl)
+same-collected ps qs b e a c m = alike-on ps (b ∷ qs) (e ∷ qs) (alike-cons b e qs qs a (all-self qs)) c c m (refl, refl)

@@ -50,7 +50,7 @@ use Rattle.meaning_laws.specs.Given.{facts}
 use Rattle.meaning_laws.specs.Third.{between}
 use Rattle.meaning_laws.specs.AllTaken.{spelled-append, all-taken}
 use Rattle.meaning_laws.specs.Around.{rowWith, Around, around}
-use Rattle.meaning_laws.specs.Alike.{RoundsInRange, alike-places, same-run}
+use Rattle.meaning_laws.specs.Alike.{RoundsInRange, alike-places, same-collected}
 
 -- the bytes of a field say the number z
 abbrev SaysNumber : List ℕ → ℤ → Type 0
@@ -139,16 +139,16 @@ module _ (pre post : List ℕ) (i : ℕ) (w : Around pre post i) (is : (f : List
   place z = placeOf (rowWith (w .others) (Number z))
 
   module _ (f : List ℕ) (z : ℤ) (s : SaysNumber f z) where
-    run-is : collectedOf emptyCase (file f) ≡ collectedFrom emptyCase 0 (w .before ++ (w .own f ∷ w .after))
+    collected-is : collectedOf emptyCase (file f) ≡ collectedFrom emptyCase 0 (w .before ++ (w .own f ∷ w .after))
     unfolding collectedOf
-    run-is = ap (collectedFrom emptyCase 0) (w .parts f (s .0))
+    collected-is = ap (collectedFrom emptyCase 0) (w .parts f (s .0))
 
     row-is : recordOf (w .own f) ≡ record { fields = rowWith (w .others) (Number z) }
     row-is = w .row f (s .0) ∙ ap (λ c. record { fields = rowWith (w .others) c }) (s .1)
 
     own-fits : Taken f → Fit kind.Place (rowWith (w .others) (Number z))
     own-fits h =
-        let d = reached (w .before) (w .after) (w .own f) emptyCase 0 (subst (λ r. isTaken (r .answer) ≡ true) run-is h) in
+        let d = reached (w .before) (w .after) (w .own f) emptyCase 0 (subst (λ r. isTaken (r .answer) ≡ true) collected-is h) in
         let t = taken-with (d .0) (w .own f) (d .1) in
         subst (λ (r : Record). Fit kind.Place (r .fields)) row-is
         (subst (λ k. Fit k (recordOf (w .own f) .fields)) (one-kind (getD (w .own f) 0 0) (t .kind) kind.Place (t .letter) (is f)) (t .fit))
@@ -169,7 +169,7 @@ module _ (pre post : List ℕ) (i : ℕ) (w : Around pre post i) (is : (f : List
   taken-too : (e f : List ℕ) (y z : ℤ) → SaysNumber e y → SaysNumber f z → RoundsInRange y → RoundsInRange z → Taken e → Taken f
   taken-too e f y z u v p q =
       let a = alike-places (w .own e) (w .own f) (w .others) y z (is e) (w .headed f e (v .0) (u .0)) p q (row-is e y u) (row-is f z v) in
-      let r = ap (λ t. t .answer) (run-is e y u) ∙ same-run (w .before) (w .after) (w .own e) (w .own f) a emptyCase 0 ∙ ap (λ t. t .answer) (sym (run-is f z v)) in
+      let r = ap (λ t. t .answer) (collected-is e y u) ∙ same-collected (w .before) (w .after) (w .own e) (w .own f) a emptyCase 0 ∙ ap (λ t. t .answer) (sym (collected-is f z v)) in
       subst (λ t. isTaken t ≡ true) r
 
   -- the case of one file is that of another with its number of rounds

@@ -84,7 +84,7 @@ each-within n s e [] us xs h = none
 each-within n s e (z ∷ zs) us xs h =
     also (within n z (subst (λ r. beyond r (Number z) ≡ false) e (h 0))) (each-within n s e zs us xs (λ j. h (suc j)))
 
--- zeros
+-- numbers that are all 0
 zeros-within : (n k : ℕ) → InRange n (pos 0) → All (Within n) (replicate k (pos 0))
 zeros-within n zero z = none
 zeros-within n (suc k) z = also (within n (pos 0) z) (zeros-within n k z)

@@ -85,13 +85,13 @@ sound-from (r ∷ rs) c m s =
     (λ e. sound-from rs (t .case) (m + 1) (take-sound c r s))
     (λ e. take-sound c r s)
 
-pub run-sound : (c : Case) (bs : List ℕ) → Sound c → Sound (collectedOf c bs .case)
+pub collected-sound : (c : Case) (bs : List ℕ) → Sound c → Sound (collectedOf c bs .case)
 unfolding collectedOf
-run-sound c bs s = sound-from (cut bs) c 0 s
+collected-sound c bs s = sound-from (cut bs) c 0 s
 
 -- so every case that a file makes is sound
 pub sound : (bs : List ℕ) → Sound (collectedOf emptyCase bs .case)
-sound bs = run-sound emptyCase bs empty-sound
+sound bs = collected-sound emptyCase bs empty-sound
 
 -- a file all of whose records are taken gives the case that it spells
 pub spelled-case : (bs : List ℕ) → isTaken (collectedOf emptyCase bs .answer) ≡ true → Spells (cut bs) (collectedOf emptyCase bs)

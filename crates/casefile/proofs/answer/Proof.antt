@@ -1,4 +1,4 @@
--- The records of the file are taken; where one is refused the run says it all, and else the case, which is sound, is judged. Assumes nothing.
+-- The records of the file are taken; where one is refused what is collected says it all, and else the case, which is sound, is judged. Assumes nothing.
 use mathlib.Core.Path.{_≡_, _∙_, sym, ap, ap₂}
 use lib.ListN.{take}
 use Rattle.answers.specs.declared.Told.{Told}
@@ -12,16 +12,16 @@ use borrow.Author.Needs.{needs}
 use Rattle.casefile.proofs.answer.Statement.{statement}
 use Rattle.casefile.proofs.answer.Tie as tie
 
--- the run is the file's
-run-of : (c : tie.After-take-all) → c .take-all .result ≡ collectedOf emptyCase (c .before .before .before .args .bytes .now)
-run-of c = c .take-all .ensures ∙ ap (λ e. collectedOf e (c .before .before .before .args .bytes .now)) (c .before .empty .ensures)
+-- what is collected is the file's
+collected-of : (c : tie.After-take-all) → c .take-all .result ≡ collectedOf emptyCase (c .before .before .before .args .bytes .now)
+collected-of c = c .take-all .ensures ∙ ap (λ e. collectedOf e (c .before .before .before .args .bytes .now)) (c .before .empty .ensures)
 
 -- so is the answer by it, and by the first bytes
 answer-by : (c : tie.After-take-all) {r : Told} → let bs = c .before .before .before .args .bytes .now in
     r ≡ answerAfter (c .take-all .result) → (r ≡ answerOf bs) × (r ≡ answerOf (take enough bs))
 unfolding answerOf
 answer-by c e =
-    let t = e ∙ ap answerAfter (run-of c) in
+    let t = e ∙ ap answerAfter (collected-of c) in
     (t, t ∙ sym (bounded _))
 
 empty-requires : tie.Need-empty-requires
@@ -34,7 +34,7 @@ is-taken-requires : tie.Need-is-taken-requires
 is-taken-requires c κs = search needs
 
 judge-requires : tie.Need-judge-requires
-judge-requires c κs = rw (run-of (c .before .before)) (sound _)
+judge-requires c κs = rw (collected-of (c .before .before)) (sound _)
 
 told-requires : tie.Need-told-requires
 told-requires c κs = search needs

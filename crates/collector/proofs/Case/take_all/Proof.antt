@@ -17,7 +17,7 @@ use Rattle.checks.specs.Input.{headOf}
 use Rattle.items.specs.Lists.{roomOf}
 use Rattle.answers.specs.Answers.{isTaken}
 use Rattle.collector.specs.Taking.{refusalOf, collectedFrom, collectedOf}
-use Rattle.collector.proofs.Laws.{cut-end, cut-next, part, rest, fair, stored, kept, placed, step, run-next, run-refused, has-room}
+use Rattle.collector.proofs.Laws.{cut-end, cut-next, part, rest, fair, stored, kept, placed, step, collected-next, collected-refused, has-room}
 use Rattle.collector.proofs.Case.take_all.Statement.{statement}
 use Rattle.collector.proofs.Case.take_all.Tie as tie
 
@@ -55,7 +55,7 @@ turned c t q =
     let k = h .before .before in
     let e = k .before .before in
     ahead e
-    ∙ run-next _ _ _ _ (h .head .given .0 .0) (d .read .result) (a .answer-of .result) t (headed k ∙ h .head .given .1) (d .read .ensures ∙ ap recordOf (next e)) (a .answer-of .ensures) (sym (c .is-taken .ensures) ∙ q)
+    ∙ collected-next _ _ _ _ (h .head .given .0 .0) (d .read .result) (a .answer-of .result) t (headed k ∙ h .head .given .1) (d .read .ensures ∙ ap recordOf (next e)) (a .answer-of .ensures) (sym (c .is-taken .ensures) ∙ q)
 
 -- a record of kind i that is taken finds room
 room : (c : tie.Then1 Inv-loop μ-loop) (i : Kind) → let h = c .before .before .before .before .before .before .before .before in h .head .given .0 .0 ≡ i → countOf (h .before .before .before .before .before .before .loop .self .count) i < roomOf i
@@ -119,7 +119,7 @@ returns c =
     let l = c .before .before .before .before .before .before .before .loop in
     let g = c .before .enum-told .given in
     ap (λ a. record { case = l .self; answer = a; taken = l .taken }) (c .refusal .ensures ∙ ap refusalOf (g .1))
-    ∙ sym (ahead (c .before .before .before .before .before) ∙ run-refused _ _ _ _ _ (headed (c .before .before .before) ∙ g .1))
+    ∙ sym (ahead (c .before .before .before .before .before) ∙ collected-refused _ _ _ _ _ (headed (c .before .before .before) ∙ g .1))
 
 sub-read : tie.Need-sub-read Inv-loop μ-loop
 sub-read c = search needs
