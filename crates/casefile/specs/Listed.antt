@@ -1,5 +1,5 @@
 -- Every file gets one of document 01's results, with its second and third number in range. Assumes nothing.
-use mathlib.Core.Path.{_≡_, refl, _∙_, sym}
+use mathlib.Core.Path.{_≡_, refl, _∙_, sym, ap}
 use mathlib.Core.Logic.{inl, inr, ⊎-elim}
 use mathlib.Core.List.{List, [], _∷_, List·Memᴰ·append-cases}
 use mathlib.Core.Bool.{Bool, true, false, cond, true≢false}
@@ -9,12 +9,13 @@ use native.Mathlib.Decide.{decLt}
 use lib.Dec.{eqb, lit<}
 use lib.ListN.{length}
 use Rattle.laws.specs.Tests.{cond-by}
-use Rattle.laws.specs.All.{All, none, also, from}
+use Rattle.laws.specs.All.{All, none, also, from, sumOver}
 use Rattle.laws.specs.Members.{Has, all-has, has-all, all-map, gather-has, has-below, all-pairs}
 use Rattle.record.specs.Layout.{fields, recordOf, cut}
 use Rattle.kinds.specs.declared.Kind.{Kind}
 use Rattle.kinds.specs.declared.Kind.the-variants as kind
 use Rattle.kinds.specs.declared.Shape.{Shape}
+use Rattle.kinds.specs.Kinds.{total}
 use Rattle.kinds.specs.Table.{shapeOf}
 use Rattle.items.specs.declared.Ref.{Ref}
 use Rattle.items.specs.declared.Ref.the-variants as ref
@@ -34,7 +35,7 @@ use Rattle.collector.specs.Taking.{takenOf, collectedFrom, collectedOf}
 use Rattle.collector.specs.Sound.{Sound}
 use Rattle.rules_laws.specs.Tells.{tells-bad, tells-missing, tells-extra, tells-outside, tells-there}
 use Rattle.rules_laws.specs.Stages.{past-fault}
-use Rattle.rules_laws.specs.Held.{sound-is-kept, counted, taken-with}
+use Rattle.rules_laws.specs.Held.{sound-is-kept, counted, counts-are, total-room, taken-with}
 use Rattle.rules_laws.specs.Kept.{sound-empty, sound-kept}
 use Rattle.rules_laws.specs.Spelled.{size-more}
 use Rattle.rules_laws.specs.Theorems.{answers}
@@ -104,7 +105,7 @@ module _ (c : Case) (s : Sound c) where
   held k = omega (arith, counted c s k, s .room k)
 
   pub within : itemCount x ≤ room
-  within = omega (arith, held kind.State, held kind.Guard, held kind.Move, held kind.Sentence, held kind.Place)
+  within = omega (arith, ap total (counts-are c s), total-room s)
 
   -- the place of a way is there
   way-place : (w : Way) → Has (waysOf x) w → w .place < length (x .places)
@@ -201,5 +202,5 @@ from-here (b ∷ rs) c m s e =
 
 -- every file gets one of the listed results
 pub listed : (bs : List ℕ) → Listed (answerOf bs)
-unfolding answerOf collectedOf
+unfolding answerOf collectedOf sumOver
 listed bs = from-here (cut bs) emptyCase 0 sound-empty (unfold emptyCase in refl)

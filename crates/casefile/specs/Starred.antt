@@ -8,11 +8,12 @@ use Prim.Native.Char.{code}
 use lib.ListN.{take, set}
 use Rattle.laws.specs.Lowest.{lowest}
 use Rattle.laws.specs.Tab.{tab}
-use Rattle.laws.specs.All.{from, gather}
+use Rattle.laws.specs.All.{from, gather, sumOver}
 use Rattle.record.specs.Spelling.{contentOf, negative, alone, leading, digits}
 use Rattle.record.specs.Spell.{lastDigits, numeral}
 use Rattle.record.specs.Layout.{fieldAt, recordOf, cutFrom, cut}
-use Rattle.kinds.specs.Kinds.{kindOf}
+use Rattle.kinds.specs.Kinds.{kindIn}
+use Rattle.kinds.specs.Last.{lastBelow}
 use Rattle.kinds.specs.Table.{shapeOf, ruleAt}
 use Rattle.counters.specs.Sum.{sum}
 use Rattle.items.specs.Items.{perCounter, stateOf, guardOf, moveOf, formOf, sentenceOf, markOf, placeOf}
@@ -101,5 +102,5 @@ starred =
     ∷ []
 
 pub starred-lines : answered starred ≡ expected starred
-unfolding starred rootGone withRecord twelveRounds bytesOf lowest contentOf negative alone leading digits lastDigits numeral fieldAt recordOf kindOf shapeOf ruleAt lowestFault rangeAnswer extraAnswer missingAnswer formAnswer fieldsAnswer endedHead headOf perCounter stateOf guardOf moveOf formOf sentenceOf markOf placeOf emptyCase wayAnswer markAnswer placeAnswer thereAnswer roomAnswer orderAnswer taking.recordAnswer takenAs takenOf cutFrom cut collectedFrom collectedOf loopsFrom moveAt sum bit weightOf from gather startOf firstOf through ways drift base greater step chain wholeSum power limit front formThrough firstNot verdict lineOf answerOf
+unfolding starred rootGone withRecord twelveRounds bytesOf lowest contentOf negative alone leading digits lastDigits numeral fieldAt recordOf sumOver kindIn lastBelow shapeOf ruleAt lowestFault rangeAnswer extraAnswer missingAnswer formAnswer fieldsAnswer endedHead headOf perCounter stateOf guardOf moveOf formOf sentenceOf markOf placeOf emptyCase wayAnswer markAnswer placeAnswer thereAnswer roomAnswer orderAnswer taking.recordAnswer takenAs takenOf cutFrom cut collectedFrom collectedOf loopsFrom moveAt sum bit weightOf from gather startOf firstOf through ways drift base greater step chain wholeSum power limit front formThrough firstNot verdict lineOf answerOf
 starred-lines = refl

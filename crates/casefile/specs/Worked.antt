@@ -9,10 +9,11 @@ use Prim.Native.String.{String}
 use lib.IntN.{ℤ, pos}
 use lib.ListN.{take, set}
 use Rattle.laws.specs.Lowest.{lowest}
-use Rattle.laws.specs.All.{none, All, also, from, gather}
+use Rattle.laws.specs.All.{none, All, also, from, gather, sumOver}
 use Rattle.record.specs.Spelling.{contentOf, negative, alone, leading, digits}
 use Rattle.record.specs.Layout.{fieldAt, recordOf, cutFrom, cut}
-use Rattle.kinds.specs.Kinds.{kindOf}
+use Rattle.kinds.specs.Kinds.{kindIn}
+use Rattle.kinds.specs.Last.{lastBelow}
 use Rattle.kinds.specs.Table.{shapeOf, ruleAt}
 use Rattle.counters.specs.Sum.{sum}
 use Rattle.items.specs.Items.{perCounter, stateOf, guardOf, moveOf, formOf, sentenceOf, markOf, placeOf}
@@ -193,7 +194,7 @@ worked =
     ∷ []
 
 worked-answers : map (λ (r : Worked). answerOf (bytesOf (r .0))) worked ≡ map (λ (r : Worked). r .1) worked
-unfolding worked fourRounds rising looped both withRecord twelveRounds bytesOf lowest contentOf negative alone leading digits fieldAt recordOf kindOf shapeOf ruleAt lowestFault rangeAnswer extraAnswer missingAnswer formAnswer fieldsAnswer endedHead headOf perCounter stateOf guardOf moveOf formOf sentenceOf markOf placeOf emptyCase wayAnswer markAnswer placeAnswer thereAnswer roomAnswer orderAnswer taking.recordAnswer takenAs takenOf cutFrom cut collectedFrom collectedOf loopsFrom moveAt sum bit weightOf from gather startOf firstOf through ways drift base greater step chain wholeSum power limit front formThrough firstNot verdict answerOf
+unfolding worked fourRounds rising looped both withRecord twelveRounds bytesOf lowest contentOf negative alone leading digits fieldAt recordOf sumOver kindIn lastBelow shapeOf ruleAt lowestFault rangeAnswer extraAnswer missingAnswer formAnswer fieldsAnswer endedHead headOf perCounter stateOf guardOf moveOf formOf sentenceOf markOf placeOf emptyCase wayAnswer markAnswer placeAnswer thereAnswer roomAnswer orderAnswer taking.recordAnswer takenAs takenOf cutFrom cut collectedFrom collectedOf loopsFrom moveAt sum bit weightOf from gather startOf firstOf through ways drift base greater step chain wholeSum power limit front formThrough firstNot verdict answerOf
 worked-answers = refl
 
 -- the meaning says of each file what the table gives

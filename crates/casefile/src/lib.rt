@@ -9,8 +9,7 @@ use collector::Case;
 use record::Record;
 
 // The bytes of one record more than a case has room for: what comes after them cannot change the answer.
-pub const ENOUGH: usize = Record::LENGTH
-    * (Case::STATES + Case::GUARDS + Case::MOVES + Case::SENTENCES + Case::PLACES + 1);
+pub const ENOUGH: usize = Record::LENGTH * (Case::ROOM + 1);
 
 // The answer to a file: the first refusal of a record, or else the judgement of the case.
 pub fn answer(bytes: &[u8]) -> Told

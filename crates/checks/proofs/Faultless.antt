@@ -1,24 +1,25 @@
 -- A record none of whose fields has a fault is taken, and refers only to what is there. Assumes nothing.
-use mathlib.Core.Path.{_≡_, refl}
-use mathlib.Core.Bool.{Bool, true, false, not, and-eq-true-iff, false≢true}
+use mathlib.Core.Path.{_≡_, refl, subst}
+use mathlib.Core.Bool.{Bool, true, false, not, _&&_, and-eq-true-iff, false≢true}
 use Prim.Native.Nat.{ℕ, _+_, _≤_, _<_}
 use native.Mathlib.Omega.{arith}
 use borrow.Author.Tests.{ltb-true, not-true, not-false}
+use Rattle.laws.specs.Lists.{nth}
 use Rattle.laws.specs.Lowest.{lowest, lowest-is, lowest-none, none-lowest}
 use Rattle.record.specs.declared.Content.{Content}
 use Rattle.record.specs.declared.Content.the-variants as content
 use Rattle.record.specs.declared.Record.{Record}
 use Rattle.record.specs.Layout.{fields, at}
 use Rattle.kinds.specs.declared.Counts.{Counts}
-use Rattle.kinds.specs.declared.Kind.{Kind}
-use Rattle.kinds.specs.declared.Kind.the-variants.{State, Guard, Move, Sentence, Place}
+use Rattle.kinds.specs.declared.Kind.the-variants.{Sentence}
 use Rattle.kinds.specs.declared.Sort.{Sort}
 use Rattle.kinds.specs.declared.Sort.the-variants as sort
-use Rattle.kinds.specs.declared.Filled.{Filled}
 use Rattle.kinds.specs.declared.Rule.{Rule}
 use Rattle.kinds.specs.declared.Rule.the-variants.{Blank, Needed, Optional}
 use Rattle.kinds.specs.declared.Shape.{Shape}
-use Rattle.kinds.specs.Table.{ruleAt, rangeOf, isNumber}
+use Rattle.kinds.specs.Kinds.{same}
+use Rattle.kinds.specs.Laws.{same-is}
+use Rattle.kinds.specs.Table.{ruleAt, rulesOf, counters, inFilled, rangeOf, isNumber}
 use Rattle.checks.specs.declared.Fault.{Fault}
 use Rattle.checks.specs.declared.Fault.the-variants as fault
 use Rattle.answers.specs.declared.Answer.the-variants.{Taken}
@@ -77,13 +78,14 @@ module _ (n : Counts) where
   right-clear (Optional s) content.Bad e = good-clear s content.Bad e
 
 -- a form is a number of field 1
-form-inside : (k : Kind) (n : ℕ) (x : Filled) (r : Record) → let s : Shape = record { kind = k; form = n; filled = x } in outside (ruleAt s 1) (at (r .fields) 1) ≡ false → wrongForm s r ≡ false
+form-inside : (s : Shape) (r : Record) → outside (ruleAt s 1) (at (r .fields) 1) ≡ false → wrongForm s r ≡ false
 unfolding ruleAt
-form-inside State n x r e = refl
-form-inside Guard n x r e = refl
-form-inside Move n x r e = refl
-form-inside Sentence n x r e = e
-form-inside Place n x r e = refl
+form-inside s r e = go (same (s .kind) Sentence) refl
+  where
+    go : (t : Bool) → same (s .kind) Sentence ≡ t → (t && outside (Needed sort.Form) (at (r .fields) 1)) ≡ false
+    go true q =
+        subst (λ k. outside (nth (rulesOf counters k (s .form) (inFilled (s .filled))) 1 Blank) (at (r .fields) 1) ≡ false) (same-is (s .kind) Sentence q) e
+    go false q = refl
 
 module _ (n : Counts) (s : Shape) (r : Record) (e : faultless n s r ≡ true) where
   clear-at : (k : ℕ) → 0 < k → k ≤ fields → Clear n (ruleAt s k) (at (r .fields) k)
@@ -103,7 +105,7 @@ module _ (n : Counts) (s : Shape) (r : Record) (e : faultless n s r ≡ true) wh
   faultless-taken =
       simp (
         lacks fault.Misspelled (λ q c h. h .spelled),
-        form-inside (s .kind) (s .form) (s .filled) r (clear-at 1 (omega arith) (omega arith) .inside),
+        form-inside s r (clear-at 1 (omega arith) (omega arith) .inside),
         lacks fault.Missing (λ q c h. h .filled),
         lacks fault.Extra (λ q c h. h .allowed),
         lacks fault.OutOfRange (λ q c h. h .inside),

@@ -1,18 +1,18 @@
 -- The results that come from the input (11 to 16), each stage named: 11 to 13 by the head of a record, 14 to 16 by its fields.
 use mathlib.Core.List.{List}
-use mathlib.Core.Bool.{Bool, false, cond}
+use mathlib.Core.Bool.{Bool, cond, _&&_}
 use Prim.Native.Nat.{ℕ, _-_}
 use lib.Dec.{eqb, leb}
 use lib.ListN.{length, getD}
 use Rattle.record.specs.declared.Record.{Record}
 use Rattle.record.specs.Layout.{fields, at, recordLength, lineFeed}
-use Rattle.kinds.specs.declared.Kind.the-variants.{State, Guard, Move, Sentence, Place}
+use Rattle.kinds.specs.declared.Kind.the-variants.{Sentence}
 use Rattle.kinds.specs.declared.Letter.{Letter}
 use Rattle.kinds.specs.declared.Letter.the-variants.{Names, Unknown}
 use Rattle.kinds.specs.declared.Rule.the-variants as rule
 use Rattle.kinds.specs.declared.Sort.the-variants as sort
 use Rattle.kinds.specs.declared.Shape.{Shape}
-use Rattle.kinds.specs.Kinds.{kindOf}
+use Rattle.kinds.specs.Kinds.{kindOf, same}
 use Rattle.answers.specs.declared.Answer.{Answer}
 use Rattle.answers.specs.declared.Answer.the-variants as answer
 use Rattle.checks.specs.declared.Fault.the-variants as fault
@@ -26,13 +26,7 @@ orElse f refused other = cond (leb f fields) (refused f) other
 
 -- a sentence whose form is filled, but is none
 abbrev pub wrongForm : Shape → Record → Bool
-wrongForm s r = elim (s .kind) [
-  | State ↦ false
-  | Guard ↦ false
-  | Move ↦ false
-  | Sentence ↦ outside (rule.Needed sort.Form) (at (r .fields) 1)
-  | Place ↦ false
-]
+wrongForm s r = same (s .kind) Sentence && outside (rule.Needed sort.Form) (at (r .fields) 1)
 
 -- 16
 unfoldable pub rangeAnswer : Shape → Record → Answer

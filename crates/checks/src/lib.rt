@@ -196,12 +196,10 @@ fn has_wrong_form(shape: Shape, row: Record) -> bool
     let fields = row.fields;
     let first = fields[0];
     let content = first.content;
-    match kind {
-        Kind::State => false,
-        Kind::Guard => false,
-        Kind::Move => false,
-        Kind::Sentence => is_outside(Rule::Needed(Sort::Form), content),
-        Kind::Place => false,
+    if kind.is(Kind::Sentence) {
+        is_outside(Rule::Needed(Sort::Form), content)
+    } else {
+        false
     }
 }
 

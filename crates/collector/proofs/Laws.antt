@@ -5,21 +5,19 @@ use mathlib.Core.List.{List, [], _∷_}
 use Prim.Native.Nat.{ℕ, zero, suc, _+_, _-_, _<_, _≤_, min}
 use native.Mathlib.Omega.{arith}
 use lib.Dec.{eqb, leb, ltb}
-use lib.ListN.{length, take, drop, getD, set, length-drop, drop-of-length-le}
+use lib.ListN.{length, take, drop, getD, length-drop, drop-of-length-le}
 use lib.Seq.{take-all, take-length, drop-length, drop-drop}
 use borrow.Author.Tests.{eqb-true, ne-eqb, leb-true, leb-false}
 use Rattle.laws.specs.Lowest.{lowest}
 use Rattle.record.specs.declared.Record.{Record}
 use Rattle.record.specs.Layout.{recordLength, recordOf, lineFeed, cutFrom, cut}
 use Rattle.kinds.specs.declared.Kind.{Kind}
-use Rattle.kinds.specs.declared.Kind.the-variants as kind
 use Rattle.kinds.specs.declared.Counts.{Counts}
 use Rattle.kinds.specs.declared.Letter.{Letter}
 use Rattle.kinds.specs.declared.Letter.the-variants.{Names, Unknown}
 use Rattle.kinds.specs.Kinds.{kindOf, rankOf, countOf}
+use Rattle.kinds.specs.Last.{lastRank}
 use Rattle.kinds.specs.Table.{shapeOf}
-use Rattle.items.specs.declared.Place.{Place}
-use Rattle.items.specs.Items.{Item, itemOf}
 use Rattle.checks.specs.declared.Head.{Head}
 use Rattle.checks.specs.declared.Head.the-variants.{Of, Refused}
 use Rattle.answers.specs.declared.Answer.{Answer}
@@ -32,8 +30,8 @@ use Rattle.collector.specs.declared.Case.{Case}
 use Rattle.collector.specs.declared.Result.{Result}
 use Rattle.collector.specs.declared.Collected.{Collected}
 use Rattle.items.specs.Lists.{roomOf}
-use Rattle.collector.specs.Cases.{oneMore, with, caseBy, changed, arraysOf}
-use Rattle.collector.specs.Taking.{lastRank, thereAnswer, roomAnswer, orderAnswer, recordAnswer, takenAs, takenBy, takenOf, collectedFrom, collectedOf}
+use Rattle.collector.specs.Cases.{with}
+use Rattle.collector.specs.Taking.{thereAnswer, roomAnswer, orderAnswer, recordAnswer, takenAs, takenBy, takenOf, collectedFrom, collectedOf}
 
 -- ---- the records of a file: none at its end, and else the next one and the rest
 
@@ -104,14 +102,7 @@ fair bs h e = subst (Fair bs) e (fair-cut bs _ refl)
 
 -- the case with the item that a record says
 abbrev pub stored : Case → Kind → Record → Case
-stored c k r = with c k (itemOf k (r .fields))
-
-pub kept : (c : Case) (k : Kind) (r : Record) (i : Kind) (x : Item i) → x ≡ itemOf i (r .fields) → k ≡ i → with c i x ≡ stored c k r
-kept c k r i x ex ei = ap (with c i) ex ∙ ap (λ j. with c j (itemOf j (r .fields))) (sym ei)
-
--- a place stored and counted, with these loops
-abbrev pub placed : Case → Place → Loops → Case
-placed c x l = caseBy (oneMore (c .count) kind.Place) (record { loops = l }) (changed kind.Place (λ xs. set xs (c .count .places) x) (arraysOf c))
+stored c k r = with c k (r .fields)
 
 -- what the records give where the next is r, of kind k, and is answered a, which takes it or not
 abbrev pub step : Case → ℕ → List (List ℕ) → Kind → Record → Answer → Bool → Collected

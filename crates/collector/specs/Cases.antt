@@ -3,6 +3,7 @@ use mathlib.Core.List.{List, [], _∷_, _++_}
 use mathlib.Core.Bool.{true, false, cond}
 use Prim.Native.Nat.{ℕ, _+_, _-_}
 use lib.ListN.{length, take, set, replicate}
+use Rattle.record.specs.declared.Field.{Field}
 use Rattle.kinds.specs.declared.Kind.{Kind}
 use Rattle.kinds.specs.declared.Kind.the-variants as kind
 use Rattle.kinds.specs.declared.Counts.{Counts}
@@ -16,7 +17,7 @@ use Rattle.items.specs.declared.Guard.{Guard}
 use Rattle.items.specs.declared.Move.{Move}
 use Rattle.items.specs.declared.Sentence.{Sentence}
 use Rattle.items.specs.declared.Place.{Place}
-use Rattle.items.specs.Items.{Item}
+use Rattle.items.specs.Items.{Item, itemOf, placeOf}
 use Rattle.items.specs.Lists.{itemsBy, Items, roomOf, noItem, listOf, countsOf}
 use Rattle.collector.specs.declared.Loops.{Loops}
 use Rattle.collector.specs.declared.Derived.{Derived}
@@ -39,17 +40,13 @@ loopsFrom l n (p ∷ ps) = loopsFrom (loopsAfter l n (p .mark)) (n + 1) ps
 
 -- ---- items
 
--- the items with those of kind k changed by f
-abbrev pub changed : (k : Kind) → (List (Item k) → List (Item k)) → Items → Items
-changed kind.State f x = record { states = f (x .states); guards = x .guards; moves = x .moves; sentences = x .sentences; places = x .places }
-changed kind.Guard f x = record { states = x .states; guards = f (x .guards); moves = x .moves; sentences = x .sentences; places = x .places }
-changed kind.Move f x = record { states = x .states; guards = x .guards; moves = f (x .moves); sentences = x .sentences; places = x .places }
-changed kind.Sentence f x = record { states = x .states; guards = x .guards; moves = x .moves; sentences = f (x .sentences); places = x .places }
-changed kind.Place f x = record { states = x .states; guards = x .guards; moves = x .moves; sentences = x .sentences; places = f (x .places) }
+-- the items with those of kind k changed; f says how those of each kind are
+abbrev pub changed : Kind → ((j : Kind) → List (Item j) → List (Item j)) → Items → Items
+changed k f x = itemsBy (λ j. cond (same k j) (f j (listOf j x)) (listOf j x))
 
--- the items with one more
-abbrev pub added : Items → (k : Kind) → Item k → Items
-added x k y = changed k (λ l. l ++ (y ∷ [])) x
+-- the items with one more: the item of kind k that the row r becomes
+abbrev pub added : Items → Kind → List Field → Items
+added x k r = changed k (λ j l. l ++ (itemOf j r ∷ [])) x
 
 -- ---- the case
 
@@ -57,13 +54,9 @@ added x k y = changed k (λ l. l ++ (y ∷ [])) x
 abbrev pub derivedOf : Items → Derived
 derivedOf x = record { loops = loopsFrom noLoops 0 (x .places) }
 
--- the same after one item more, where n counts those before it
-abbrev pub derivedAfter : Derived → Counts → (k : Kind) → Item k → Derived
-derivedAfter d n kind.State x = d
-derivedAfter d n kind.Guard x = d
-derivedAfter d n kind.Move x = d
-derivedAfter d n kind.Sentence x = d
-derivedAfter d n kind.Place x = record { loops = loopsAfter (d .loops) (n .places) (x .mark) }
+-- the same after one item more, of kind k and the row r, where n counts those before it
+abbrev pub derivedAfter : Derived → Counts → Kind → List Field → Derived
+derivedAfter d n k r = record { loops = cond (same k kind.Place) (loopsAfter (d .loops) (n .places) (placeOf r .mark)) (d .loops) }
 
 -- a case with these counts, derived data and arrays
 abbrev pub caseBy : Counts → Derived → Items → Case
@@ -94,7 +87,8 @@ emptyCase = caseOf (itemsBy (λ k. []))
 abbrev pub oneMore : Counts → Kind → Counts
 oneMore n k = countsBy (λ j. cond (same k j) (countOf n j + 1) (countOf n j))
 
--- the case with the item x stored and counted
-abbrev pub with : Case → (k : Kind) → Item k → Case
-with c k x =
-    caseBy (oneMore (c .count) k) (derivedAfter (c .derived) (c .count) k x) (changed k (λ xs. set xs (countOf (c .count) k) x) (arraysOf c))
+-- the case with the item of kind k that the row r becomes, stored and counted
+abbrev pub with : Case → Kind → List Field → Case
+with c k r =
+    let n = c .count in
+    caseBy (oneMore n k) (derivedAfter (c .derived) n k r) (changed k (λ j l. set l (countOf n j) (itemOf j r)) (arraysOf c))

@@ -2,7 +2,7 @@
 use mathlib.Core.Path.{_≡_}
 use mathlib.Core.Logic.{_↔_}
 use mathlib.Core.List.{List}
-use mathlib.Core.Bool.{true}
+use mathlib.Core.Bool.{true, cond}
 use Prim.Native.Nat.{ℕ, _≤_, _<_}
 use lib.ListN.{length, getD}
 use Rattle.record.specs.declared.Field.{Field}
@@ -10,7 +10,7 @@ use Rattle.kinds.specs.declared.Kind.{Kind}
 use Rattle.kinds.specs.declared.Kind.the-variants as kind
 use Rattle.kinds.specs.declared.Counts.{Counts}
 use Rattle.kinds.specs.declared.Shape.{Shape}
-use Rattle.kinds.specs.Kinds.{countOf}
+use Rattle.kinds.specs.Kinds.{countOf, countsBy, same}
 use Rattle.kinds.specs.Table.{shapeOf}
 use Rattle.items.specs.declared.Ref.the-variants as ref
 use Rattle.items.specs.declared.LoopMark.the-variants as mark
@@ -36,13 +36,9 @@ pub record Fit (k : Kind) (r : List Field) : Type 0 where
 abbrev pub There : Counts → Kind → List Field → Type 0
 There n k r = (f : ℕ) → IsNotThere n k r f → ⊥
 
--- item i of a kind refers to what is held; sentence i to sentences below i
+-- what item i of a kind may refer to: what is held, and of its own kind only what comes before it
 abbrev pub reach : Counts → Kind → ℕ → Counts
-reach n kind.State i = n
-reach n kind.Guard i = n
-reach n kind.Move i = n
-reach n kind.Sentence i = record { states = n .states; guards = n .guards; moves = n .moves; sentences = i; places = n .places }
-reach n kind.Place i = n
+reach n k i = countsBy (λ j. cond (same k j) i (countOf n j))
 
 -- loops don't overlap and lie within the room for places; the endless one comes once and last
 pub record LoopsApart (ps : List Place) : Type 0 where

@@ -10,9 +10,9 @@ use Rattle.kinds.specs.declared.Kind.{Kind}
 use Rattle.kinds.specs.declared.Kind.the-variants as kind
 use Rattle.kinds.specs.declared.Counts.{Counts}
 use Rattle.kinds.specs.declared.Shape.{Shape}
-use Rattle.kinds.specs.Kinds.{rankOf, countOf}
+use Rattle.kinds.specs.Kinds.{rankOf, countOf, same}
+use Rattle.kinds.specs.Last.{lastRank}
 use Rattle.kinds.specs.Table.{natural, isNumber, isBlank, shapeOf}
-use Rattle.items.specs.Items.{itemOf}
 use Rattle.items.specs.Lists.{roomOf}
 use Rattle.answers.specs.declared.Answer.{Answer}
 use Rattle.answers.specs.declared.Answer.the-variants.{Taken, OutOfOrder, NoRoom, NotThere, Misplaced, WrongWayIn}
@@ -58,11 +58,7 @@ placeAnswer l n r = cond (isClosed l n) (Misplaced 0) (markAnswer l n r)
 
 -- 25 and 26 are of places alone
 abbrev pub layoutAnswer : Kind → Counts → Loops → List Field → Answer
-layoutAnswer kind.State n l r = Taken
-layoutAnswer kind.Guard n l r = Taken
-layoutAnswer kind.Move n l r = Taken
-layoutAnswer kind.Sentence n l r = Taken
-layoutAnswer kind.Place n l r = placeAnswer l (n .places) r
+layoutAnswer k n l r = cond (same k kind.Place) (placeAnswer l (n .places) r) Taken
 
 -- 23
 unfoldable pub thereAnswer : Counts → Loops → Shape → Record → Answer
@@ -71,13 +67,6 @@ thereAnswer n l s r = orElse (lowestFault (fault.NotThere n) s r) NotThere (layo
 -- 22
 unfoldable pub roomAnswer : Counts → Loops → Shape → Record → Answer
 roomAnswer n l s r = cond (leb (roomOf (s .kind)) (countOf n (s .kind))) NoRoom (thereAnswer n l s r)
-
--- the rank of the last kind that is held
-abbrev pub lastRank : Counts → ℕ
-lastRank n =
-    cond (ltb 0 (n .places)) (rankOf kind.Place)
-    (cond (ltb 0 (n .sentences)) (rankOf kind.Sentence)
-    (cond (ltb 0 (n .moves)) (rankOf kind.Move) (cond (ltb 0 (n .guards)) (rankOf kind.Guard) (rankOf kind.State))))
 
 -- 21: a kind after a later kind
 unfoldable pub orderAnswer : Counts → Loops → Shape → Record → Answer
@@ -98,7 +87,7 @@ recordAnswer n l k r =
 unfoldable pub takenAs : Case → Kind → Record → Result
 takenAs c k r =
     let a = recordAnswer (c .count) (c .derived .loops) k r in
-    record { case = cond (isTaken a) (with c k (itemOf k (r .fields))) c; answer = a }
+    record { case = cond (isTaken a) (with c k (r .fields)) c; answer = a }
 
 -- taking a record by its head: 11 to 13, or its kind
 abbrev pub takenBy : Case → Head → List ℕ → Result

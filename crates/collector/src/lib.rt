@@ -1,17 +1,17 @@
 // A case, and its collector: a record's bytes become the next item of their kind, or are refused and nothing changes.
 ghost use mathlib.Core.Path.{_≡_};
 ghost use mathlib.Core.Bool.{cond};
-ghost use lib.Dec.{eqb, ltb};
+ghost use lib.Dec.{eqb};
 ghost use Prim.Native.Nat.{_+_, _-_, _≤_, _<_, _^_, min};
 ghost use Rattle.record.specs.Layout.{recordLength};
 ghost use Rattle.kinds.specs.declared.Kind.the-variants as kind;
-ghost use Rattle.kinds.specs.Kinds.{rankOf, countOf};
+ghost use Rattle.kinds.specs.Kinds.{countOf};
 ghost use Rattle.kinds.specs.Table.{shapeOf};
 ghost use Rattle.checks.specs.declared.Fault.the-variants as fault;
 ghost use Rattle.checks.specs.Faults.{lowestFault};
 ghost use Rattle.collector.specs.Cases.{emptyCase, loopsAfter};
 ghost use Rattle.items.specs.Lists.{noItem, roomOf};
-ghost use Rattle.collector.specs.Taking.{isClosed, isBarred, refusalOf, lastRank, wayAnswer, placeAnswer, layoutAnswer, orderAnswer, recordAnswer, takenOf, collectedOf};
+ghost use Rattle.collector.specs.Taking.{isClosed, isBarred, refusalOf, wayAnswer, placeAnswer, layoutAnswer, orderAnswer, recordAnswer, takenOf, collectedOf};
 ghost use Rattle.answers.specs.Answers.{isTaken};
 use answers::Answer;
 use checks::Fault;
@@ -75,19 +75,6 @@ fn refusal(head: Head) -> Answer
     }
 }
 
-// The order in which kinds come.
-fn rank(kind: Kind) -> usize
-    ensures { λ r. ⌜ r ≡ rankOf kind ⌝ }
-{
-    match kind {
-        Kind::State => 0,
-        Kind::Guard => 1,
-        Kind::Move => 2,
-        Kind::Sentence => 3,
-        Kind::Place => 4,
-    }
-}
-
 // How many items of a kind a case has room for.
 fn room_of(kind: Kind) -> usize
     ensures { λ r. ⌜ r ≡ roomOf kind ⌝ }
@@ -99,23 +86,6 @@ fn room_of(kind: Kind) -> usize
         Kind::Sentence => Case::SENTENCES,
         Kind::Place => Case::PLACES,
     }
-}
-
-// A kind's rank where items of it are held, and else the other.
-fn rank_if(held: usize, kind: Kind, other: usize) -> usize
-    ensures { λ r. ⌜ r ≡ cond (ltb 0 held) (rankOf kind) other ⌝ }
-{
-    if 0 < held { rank(kind) } else { other }
-}
-
-// The rank of the last kind that is held.
-fn last_rank(count: Counts) -> usize
-    ensures { λ r. ⌜ r ≡ lastRank count ⌝ }
-{
-    let guards = rank_if(count.guards, Kind::Guard, rank(Kind::State));
-    let moves = rank_if(count.moves, Kind::Move, guards);
-    let sentences = rank_if(count.sentences, Kind::Sentence, moves);
-    rank_if(count.places, Kind::Place, sentences)
 }
 
 impl Loops {
@@ -214,12 +184,10 @@ fn layout_answer(count: Counts, loops: Loops, kind: Kind, row: Record) -> Answer
     requires { ⌜ countOf count kind ≤ roomOf kind ⌝ }
     ensures { λ r. ⌜ r ≡ layoutAnswer kind count loops (row .fields) ⌝ }
 {
-    match kind {
-        Kind::State => Answer::Taken,
-        Kind::Guard => Answer::Taken,
-        Kind::Move => Answer::Taken,
-        Kind::Sentence => Answer::Taken,
-        Kind::Place => place_answer(loops, count.places, row),
+    if kind.is(Kind::Place) {
+        place_answer(loops, count.places, row)
+    } else {
+        Answer::Taken
     }
 }
 
@@ -228,7 +196,7 @@ fn state_answer(count: Counts, loops: Loops, kind: Kind, row: Record, absent: us
     requires { ⌜ absent ≡ lowestFault (fault.NotThere count) (shapeOf kind row) row ⌝ }
     ensures { λ r. ⌜ r ≡ orderAnswer count loops (shapeOf kind row) row ⌝ }
 {
-    if rank(kind) < last_rank(count) {
+    if kind.rank() < count.last_rank() {
         return Answer::OutOfOrder;
     }
     if room_of(kind) <= count.of(kind) {
@@ -313,17 +281,18 @@ impl Case {
 
     pub const PLACES: usize = 64;
 
+    // How many items in all.
+    pub const ROOM: usize = Case::STATES
+        + Case::GUARDS
+        + Case::MOVES
+        + Case::SENTENCES
+        + Case::PLACES;
+
     // The case that holds nothing.
     pub fn empty() -> Case
         ensures { λ r. ⌜ r ≡ emptyCase ⌝ }
     {
-        let count = Counts {
-            states: 0,
-            guards: 0,
-            moves: 0,
-            sentences: 0,
-            places: 0,
-        };
+        let count = Counts::none();
         let derived = Derived {
             loops: Loops {
                 end: PlaceNo(0),

@@ -59,3 +59,7 @@ itemsBy f =
 -- how many items of each kind there are
 abbrev pub countsOf : Items → Counts
 countsOf x = countsBy (λ k. length (listOf k x))
+
+-- the items with other places
+abbrev pub withPlaces : Items → List Place → Items
+withPlaces x ps = record { states = x .states; guards = x .guards; moves = x .moves; sentences = x .sentences; places = ps }

@@ -1,12 +1,12 @@
 -- The answer of a judgement, stage by stage: each by what its search found, or else by the next. Assumes nothing.
 use mathlib.Core.Path.{_≡_, refl, _∙_, sym, ap}
 use mathlib.Core.Bool.{Bool, true, false, cond, _&&_}
-use Prim.Native.Nat.{ℕ, _+_, _-_}
+use Prim.Native.Nat.{ℕ, _-_}
 use lib.Dec.{eqb, ltb}
 use lib.ListN.{getD}
 use borrow.Author.Tests.{eq-eqb, ne-eqb}
 use Rattle.kinds.specs.declared.Kind.the-variants as kind
-use Rattle.kinds.specs.declared.Counts.{Counts}
+use Rattle.kinds.specs.Kinds.{total}
 use Rattle.items.specs.declared.Place.{Place}
 use Rattle.items.specs.Lists.{Items, noItem}
 use Rattle.answers.specs.declared.Judgement.{Judgement}
@@ -27,10 +27,6 @@ use Rattle.guards.specs.declared.Search.{Search}
 use Rattle.guards.specs.declared.Search.the-variants.{Nowhere, At}
 use Rattle.marks.specs.Wrong.{toldMark}
 use Rattle.judge.specs.Told.{toldWay, toldTest}
-
--- how many items are held
-abbrev pub held : Counts → ℕ
-held n = n .states + (n .guards + (n .moves + (n .sentences + n .places)))
 
 -- 32, 33 and 34, where the search for them found something, else the answer that follows
 abbrev pub orUnconnected : Search → Judgement → Judgement
@@ -96,15 +92,15 @@ module _ {c : Case} (s : Sound c) where
   finished-is : isFinished ≡ finished x
   finished-is = rw (ap (λ (d : Derived). d .loops) (derived s), counted c s kind.Sentence, counted c s kind.Place)
 
-  held-is : held (c .count) ≡ itemCount x
-  held-is = ap held (counts-are c s)
+  held-is : total (c .count) ≡ itemCount x
+  held-is = ap total (counts-are c s)
 
-  judged : verdict x (startOf x) ≡ cond isFinished (cond (eqb (first .state) 0) (waysAnswer x) WrongStart) (Unfinished (held (c .count)))
+  judged : verdict x (startOf x) ≡ cond isFinished (cond (eqb (first .state) 0) (waysAnswer x) WrongStart) (Unfinished (total (c .count)))
   judged = verdict-is x ∙ sym (rw (finished-is, at-places s 0, held-is))
 
   -- where b tells whether 24 doesn't apply
   module _ {b : Bool} (e : b ≡ isFinished) where
-    pub unfinished : b ≡ false → verdict x (startOf x) ≡ Unfinished (held (c .count))
+    pub unfinished : b ≡ false → verdict x (startOf x) ≡ Unfinished (total (c .count))
     unfinished t = judged ∙ rw (sym e ∙ t)
 
     pub wrong-start : b ≡ true → (first .state ≡ 0 → ⊥) → verdict x (startOf x) ≡ WrongStart

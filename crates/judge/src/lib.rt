@@ -17,7 +17,6 @@ ghost use Rattle.tables.specs.Tables.{tablesOf};
 ghost use Rattle.guards.specs.GuardSums.{SumsFit, throughBy};
 ghost use Rattle.judge.specs.Told.{toldWay, toldTest, isNamed, given};
 ghost use Rattle.judge.specs.Tests.{guardBy};
-ghost use Rattle.judge.specs.Stages.{held};
 use answers::Judgement;
 use collector::Case;
 use collector::Loops;
@@ -229,14 +228,6 @@ fn finished(count: Counts, loops: Loops) -> bool
     false
 }
 
-// How many items are held.
-fn held(count: Counts) -> usize
-    requires { ⌜ held count < 2 ^ 64 ⌝ }
-    ensures { λ r. ⌜ r ≡ held count ⌝ }
-{
-    count.states + (count.guards + (count.moves + (count.sentences + count.places)))
-}
-
 // The judgement of a case: 24, 31, 32, 33, 34, 35, the first that applies, or 0.
 pub fn judge(c: Case) -> Judgement
     requires { ⌜ Sound c ⌝ }
@@ -245,7 +236,7 @@ pub fn judge(c: Case) -> Judgement
     let count = c.count;
     let loops = c.derived.loops;
     if !finished(count, loops) {
-        return Judgement::Unfinished(held(count));
+        return Judgement::Unfinished(count.total());
     }
     let first = c.places[0];
     if first.state != 0 {

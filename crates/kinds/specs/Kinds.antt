@@ -1,7 +1,9 @@
 -- The kinds of records: their letters, and the order in which they come.
+use mathlib.Core.List.{List, [], _∷_}
 use mathlib.Core.Bool.{Bool, cond}
 use Prim.Native.Nat.{ℕ}
 use lib.Dec.{eqb}
+use Rattle.laws.specs.All.{sumOver}
 use Rattle.kinds.specs.declared.Kind.{Kind}
 use Rattle.kinds.specs.declared.Kind.the-variants.{State, Guard, Move, Sentence, Place}
 use Rattle.kinds.specs.declared.Letter.{Letter}
@@ -24,13 +26,22 @@ rankOf Move = 2
 rankOf Sentence = 3
 rankOf Place = 4
 
+-- every kind, by its rank
+abbrev pub kinds : List Kind
+kinds = State ∷ Guard ∷ Move ∷ Sentence ∷ Place ∷ []
+
+-- whether two kinds are the same: they have one letter
+abbrev pub same : Kind → Kind → Bool
+same j k = eqb (letterOf j) (letterOf k)
+
+-- the kind that a letter names, of those listed
+unfoldable pub kindIn : List Kind → ℕ → Letter
+kindIn [] b = Unknown
+kindIn (k ∷ ks) b = cond (eqb b (letterOf k)) (Names k) (kindIn ks b)
+
 -- the kind that a letter names
-unfoldable pub kindOf : ℕ → Letter
-kindOf b =
-    cond (eqb b (letterOf State)) (Names State)
-    (cond (eqb b (letterOf Guard)) (Names Guard)
-    (cond (eqb b (letterOf Move)) (Names Move)
-    (cond (eqb b (letterOf Sentence)) (Names Sentence) (cond (eqb b (letterOf Place)) (Names Place) Unknown))))
+abbrev pub kindOf : ℕ → Letter
+kindOf = kindIn kinds
 
 -- how many items of a kind are held
 abbrev pub countOf : Counts → Kind → ℕ
@@ -40,10 +51,14 @@ countOf n Move = n .moves
 countOf n Sentence = n .sentences
 countOf n Place = n .places
 
--- whether two kinds are the same: they have one letter
-abbrev pub same : Kind → Kind → Bool
-same j k = eqb (letterOf j) (letterOf k)
-
 -- counts, kind by kind
 abbrev pub countsBy : (Kind → ℕ) → Counts
 countsBy f = record { states = f State; guards = f Guard; moves = f Move; sentences = f Sentence; places = f Place }
+
+-- the sum of a number for each kind
+abbrev pub overKinds : (Kind → ℕ) → ℕ
+overKinds f = sumOver f kinds
+
+-- how many items are held
+abbrev pub total : Counts → ℕ
+total n = overKinds (countOf n)

@@ -1,2 +1,4 @@
 pub mod Kinds
 pub mod Table
+pub mod Last
+pub mod Laws

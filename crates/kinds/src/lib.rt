@@ -1,13 +1,15 @@
 // The kinds of records, and what each kind needs, may have and allows in each field.
 ghost use mathlib.Core.Path.{_≡_};
-ghost use mathlib.Core.Bool.{_||_};
+ghost use mathlib.Core.Bool.{_||_, cond};
 ghost use mathlib.Core.List.{_∷_};
-ghost use Prim.Native.Nat.{_-_, _<_};
+ghost use Prim.Native.Nat.{_-_, _<_, _^_};
+ghost use lib.Dec.{ltb};
 ghost use lib.ListN.{replicate};
 ghost use Rattle.laws.specs.Lists.{nth};
 ghost use Rattle.kinds.specs.declared.Rule.the-variants as rule;
 ghost use Rattle.kinds.specs.declared.Sort.the-variants.{Form};
-ghost use Rattle.kinds.specs.Kinds.{kindOf, countOf};
+ghost use Rattle.kinds.specs.Kinds.{kindOf, rankOf, same, countOf, countsBy, total};
+ghost use Rattle.kinds.specs.Last.{lastRank};
 ghost use Rattle.kinds.specs.Table.{neededIf, rangeOf, flagOf, isNumber, natural, shapeOf, ruleAt, stateRow, guardRow, moveRow, sentenceRow, placeRow, counters, inFilled};
 use record::Content;
 use record::Record;
@@ -99,7 +101,42 @@ pub fn kind_of(letter: u8) -> Letter
     }
 }
 
+impl Kind {
+    // The place of this kind in the order in which kinds come.
+    pub fn rank(self) -> usize
+        ensures { λ r. ⌜ r ≡ rankOf self ⌝ }
+    {
+        match self {
+            Kind::State => 0,
+            Kind::Guard => 1,
+            Kind::Move => 2,
+            Kind::Sentence => 3,
+            Kind::Place => 4,
+        }
+    }
+
+    // Whether this kind is the other.
+    pub fn is(self, other: Kind) -> bool
+        ensures { λ r. ⌜ r ≡ same self other ⌝ }
+    {
+        self.rank() == other.rank()
+    }
+}
+
 impl Counts {
+    // No items.
+    pub fn none() -> Counts
+        ensures { λ r. ⌜ r ≡ countsBy (λ k. 0) ⌝ }
+    {
+        Counts {
+            states: 0,
+            guards: 0,
+            moves: 0,
+            sentences: 0,
+            places: 0,
+        }
+    }
+
     // How many items of a kind are held.
     pub fn of(self, kind: Kind) -> usize
         ensures { λ r. ⌜ r ≡ countOf self kind ⌝ }
@@ -112,6 +149,32 @@ impl Counts {
             Kind::Place => self.places,
         }
     }
+
+    // How many items are held.
+    pub fn total(self) -> usize
+        requires { ⌜ total self < 2 ^ 64 ⌝ }
+        ensures { λ r. ⌜ r ≡ total self ⌝ }
+    {
+        self.states + (self.guards + (self.moves + (self.sentences + self.places)))
+    }
+
+    // The rank of the last kind of which an item is held.
+    pub fn last_rank(self) -> usize
+        ensures { λ r. ⌜ r ≡ lastRank self ⌝ }
+    {
+        let states = rank_if(self.states, Kind::State, 0);
+        let guards = rank_if(self.guards, Kind::Guard, states);
+        let moves = rank_if(self.moves, Kind::Move, guards);
+        let sentences = rank_if(self.sentences, Kind::Sentence, moves);
+        rank_if(self.places, Kind::Place, sentences)
+    }
+}
+
+// A kind's rank where items of it are held, and else the other.
+fn rank_if(held: usize, kind: Kind, other: usize) -> usize
+    ensures { λ r. ⌜ r ≡ cond (ltb 0 held) (rankOf kind) other ⌝ }
+{
+    if 0 < held { kind.rank() } else { other }
 }
 
 // The numbers that a field of each sort allows.

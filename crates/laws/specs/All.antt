@@ -1,6 +1,6 @@
--- What is true of all of a list, which is the first of which it isn't, numbers in a row, and lists that are gathered.
+-- What is true of all of a list, which is the first of which it isn't, numbers in a row, lists that are gathered, and sums.
 use mathlib.Core.List.{List, [], _∷_, _++_}
-use Prim.Native.Nat.{ℕ, zero, suc}
+use Prim.Native.Nat.{ℕ, zero, suc, _+_}
 
 -- all of a list are good
 pub data All {A : Type 0} (Good : A → Type 0) : List A → Type 0 where
@@ -21,3 +21,8 @@ from s (suc n) = s ∷ from (suc s) n
 unfoldable pub gather : {A B : Type 0} → (A → List B) → List A → List B
 gather f [] = []
 gather f (a ∷ l) = f a ++ gather f l
+
+-- the sum of a number for each of a list
+unfoldable pub sumOver : {A : Type 0} → (A → ℕ) → List A → ℕ
+sumOver f [] = 0
+sumOver f (a ∷ l) = f a + sumOver f l

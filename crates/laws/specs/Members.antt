@@ -1,11 +1,12 @@
 -- Laws of what is true of all of a list, of the first of which it isn't, and membership. Assumes nothing.
-use mathlib.Core.Path.{_≡_, refl, sym, subst}
+use mathlib.Core.Path.{_≡_, refl, _∙_, sym, ap, subst}
+use mathlib.Core.Bool.{Bool, true, false, cond, _&&_, and-eq-true-iff}
 use mathlib.Core.Logic.{_↔_, ⊎-elim}
 use mathlib.Core.List.{List, [], _∷_, map, List·Memᴰ, List·Memᴰ·head, List·Memᴰ·tail, List·Memᴰ·not-nil, List·Memᴰ·cases-cons, List·Memᴰ·append-cases, Memᴰ·append-left, Memᴰ·append-right, Memᴰ·map, Memᴰ·of-map, _++_}
 use Prim.Native.Nat.{ℕ, zero, suc, _+_, _≤_, _<_}
 use native.Mathlib.Nat.{eq-or-lt-of-le}
 use native.Mathlib.Omega.{arith}
-use Rattle.laws.specs.All.{All, none, also, First, this, later, from, gather}
+use Rattle.laws.specs.All.{All, none, also, First, this, later, from, gather, sumOver}
 
 -- ---- the first that is bad, where none is both good and bad
 
@@ -92,3 +93,34 @@ all-pairs {A} {B} {C} {P} f g l = (
 pub all-both : {A : Type 0} {P : A → Type 0} {l m : List A} → All P l → All P m → All P (l ++ m)
 all-both none b = b
 all-both (also h t) b = also h (all-both t b)
+
+-- ---- a test of each of a list
+
+-- whether t holds of all of a list
+unfoldable pub allOf : {A : Type 0} → (A → Bool) → List A → Bool
+allOf t [] = true
+allOf t (a ∷ l) = t a && allOf t l
+
+pub holds-all : {A : Type 0} (t : A → Bool) {l : List A} {a : A} → allOf t l ≡ true → Has l a → t a ≡ true
+unfolding allOf
+holds-all t e (List·Memᴰ·head {x = b} {xs = l} h) = ap t h ∙ and-eq-true-iff (t b) (allOf t l) .0 e .0
+holds-all t e (List·Memᴰ·tail {x = b} {xs = l} m) = holds-all t (and-eq-true-iff (t b) (allOf t l) .0 e .1) m
+
+-- ---- sums
+
+module _ {A : Type 0} where
+  pub sum-le : (f g : A → ℕ) → ((a : A) → f a ≤ g a) → (l : List A) → sumOver f l ≤ sumOver g l
+  unfolding sumOver
+  sum-le f g h [] = omega arith
+  sum-le f g h (a ∷ l) = omega (arith, h a, sum-le f g h l)
+
+  -- with one more for each of which t holds
+  pub sum-more : (f : A → ℕ) (t : A → Bool) (l : List A) →
+      sumOver (λ a. cond (t a) (f a + 1) (f a)) l ≡ sumOver f l + sumOver (λ a. cond (t a) 1 0) l
+  unfolding sumOver
+  sum-more f t [] = omega arith
+  sum-more f t (a ∷ l) = one (t a) (f a) _ _ _ (sum-more f t l)
+    where
+      one : (b : Bool) (n x y z : ℕ) → x ≡ y + z → cond b (n + 1) n + x ≡ (n + y) + (cond b 1 0 + z)
+      one true n x y z e = omega arith
+      one false n x y z e = omega arith

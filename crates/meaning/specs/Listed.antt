@@ -1,9 +1,10 @@
 -- The results that document 01 lists, each with its second and third number in range; the numbers themselves stand in the crate answers.
 use mathlib.Core.Path.{_≡_}
 use mathlib.Core.Logic.{_⊎_}
-use Prim.Native.Nat.{ℕ, _+_, _≤_, _<_}
+use Prim.Native.Nat.{ℕ, _≤_, _<_}
 use Rattle.record.specs.Layout.{fields}
 use Rattle.kinds.specs.declared.Kind.the-variants as kind
+use Rattle.kinds.specs.Kinds.{overKinds}
 use Rattle.items.specs.Lists.{roomOf}
 use Rattle.answers.specs.declared.Answer.{Answer}
 use Rattle.answers.specs.declared.Answer.the-variants.{Taken, NotARecord, NoLineFeed, NoSuchKind, Misspelled, Misfilled, OutOfRange, OutOfOrder, NoRoom, NotThere, Misplaced, WrongWayIn}
@@ -14,7 +15,7 @@ use Rattle.answers.specs.Answers.{refusal, numbersOf}
 
 -- how many records a case has room for
 abbrev pub room : ℕ
-room = roomOf kind.State + (roomOf kind.Guard + (roomOf kind.Move + (roomOf kind.Sentence + roomOf kind.Place)))
+room = overKinds roomOf
 
 -- f is a field of a record, counted from 1
 abbrev pub IsField : ℕ → Type 0

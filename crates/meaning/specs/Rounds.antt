@@ -5,7 +5,7 @@ use lib.ListN.{set}
 use Rattle.items.specs.declared.LoopMark.{LoopMark}
 use Rattle.items.specs.declared.Place.{Place}
 use Rattle.items.specs.declared.LoopMark.the-variants as mark
-use Rattle.items.specs.Lists.{Items}
+use Rattle.items.specs.Lists.{Items, withPlaces}
 use Rattle.meaning.specs.Run.{placeAt}
 
 -- a loop mark with n rounds, where it is counted
@@ -24,5 +24,4 @@ placesWith ps s n = set ps s (placeWith n (placeAt ps s))
 
 -- the case with n rounds in the loop that place s begins
 abbrev pub withRounds : Items → ℕ → ℕ → Items
-withRounds x s n =
-    record { states = x .states; guards = x .guards; moves = x .moves; sentences = x .sentences; places = placesWith (x .places) s n }
+withRounds x s n = withPlaces x (placesWith (x .places) s n)

@@ -12,11 +12,13 @@ use Rattle.record.specs.declared.Field.{Field}
 use Rattle.record.specs.declared.Record.{Record}
 use Rattle.record.specs.Layout.{fields, recordOf}
 use Rattle.kinds.specs.declared.Kind.{Kind}
-use Rattle.kinds.specs.declared.Kind.the-variants.{State, Guard, Move, Sentence, Place}
+use Rattle.kinds.specs.declared.Kind.the-variants.{Place}
 use Rattle.kinds.specs.declared.Counts.{Counts}
 use Rattle.kinds.specs.declared.Sort.the-variants.{Rounds}
+use Rattle.kinds.specs.Kinds.{same}
+use Rattle.kinds.specs.Laws.{one-kind}
 use Rattle.kinds.specs.Table.{rangeOf, shapeOf, ruleAt}
-use Rattle.items.specs.Items.{Item, itemOf, placeOf, markOf}
+use Rattle.items.specs.Items.{placeOf, markOf}
 use Rattle.answers.specs.Answers.{isTaken}
 use Rattle.checks.specs.declared.Fault.{Fault}
 use Rattle.checks.specs.declared.Fault.the-variants.{Misspelled, Missing, Extra, OutOfRange, NotThere}
@@ -29,7 +31,7 @@ use Rattle.collector.specs.declared.Result.{Result}
 use Rattle.collector.specs.declared.Collected.{Collected}
 use Rattle.collector.specs.Cases.{oneMore, loopsAfter, with}
 use Rattle.collector.specs.Taking.{recordAnswer, orderAnswer, roomAnswer, thereAnswer, placeAnswer, markAnswer, wayAnswer, takenAs, takenBy, takenOf, collectedFrom}
-use Rattle.rules_laws.specs.Letters.{one-kind, by-head}
+use Rattle.rules_laws.specs.Letters.{by-head}
 use Rattle.meaning_laws.specs.Around.{rowWith}
 
 -- ---- what taking looks at in a case
@@ -41,17 +43,14 @@ Same c d = (c .count ≡ d .count) × (c .derived .loops ≡ d .derived .loops)
 abbrev SameResult : Result → Result → Type 0
 SameResult t u = (t .answer ≡ u .answer) × Same (t .case) (u .case)
 
-same-with : (c d : Case) → Same c d → (k : Kind) (x : Item k) → Same (with c k x) (with d k x)
-same-with c d s State x = (ap (λ n. oneMore n State) (s .0), s .1)
-same-with c d s Guard x = (ap (λ n. oneMore n Guard) (s .0), s .1)
-same-with c d s Move x = (ap (λ n. oneMore n Move) (s .0), s .1)
-same-with c d s Sentence x = (ap (λ n. oneMore n Sentence) (s .0), s .1)
-same-with c d s Place x = (ap (λ n. oneMore n Place) (s .0), ap₂ (λ l n. loopsAfter l (n .places) (x .mark)) (s .1) (s .0))
+same-with : (c d : Case) → Same c d → (k : Kind) (r : List Field) → Same (with c k r) (with d k r)
+same-with c d s k r =
+    (ap (λ n. oneMore n k) (s .0), ap₂ (λ l n. cond (same k Place) (loopsAfter l (n .places) (placeOf r .mark)) l) (s .1) (s .0))
 
 -- two rows of kind k are answered alike, and their items leave the same counts and loops
 record AlikeAs (k : Kind) (r q : Record) : Type 0 where
   answer : (n : Counts) (l : Loops) → recordAnswer n l k r ≡ recordAnswer n l k q
-  item : (c : Case) → Same (with c k (itemOf k (r .fields))) (with c k (itemOf k (q .fields)))
+  item : (c : Case) → Same (with c k (r .fields)) (with c k (q .fields))
 
 -- two records are taken alike, and so are two rows of records, where the cases held are alike
 abbrev Alike : List ℕ → List ℕ → Type 0
@@ -64,19 +63,13 @@ alike-as : (c d : Case) (k : Kind) (r q : Record) → Same c d → AlikeAs k r q
 unfolding takenAs
 alike-as c d k r q s a =
     let t = isTaken (recordAnswer (c .count) (c .derived .loops) k r) in
-    (e, subst (λ u. Same (cond t (with c k x) c) (cond u (with d k y) d)) (ap isTaken e) (go t))
+    (e, subst (λ u. Same (cond t (with c k (r .fields)) c) (cond u (with d k (q .fields)) d)) (ap isTaken e) (go t))
   where
-    x : Item k
-    x = itemOf k (r .fields)
-
-    y : Item k
-    y = itemOf k (q .fields)
-
     e : recordAnswer (c .count) (c .derived .loops) k r ≡ recordAnswer (d .count) (d .derived .loops) k q
     e = ap₂ (λ n l. recordAnswer n l k r) (s .0) (s .1) ∙ a .answer (d .count) (d .derived .loops)
 
-    go : (t : Bool) → Same (cond t (with c k x) c) (cond t (with d k y) d)
-    go true = let u = same-with c d s k x in let v = a .item d in (u .0 ∙ v .0, u .1 ∙ v .1)
+    go : (t : Bool) → Same (cond t (with c k (r .fields)) c) (cond t (with d k (q .fields)) d)
+    go true = let u = same-with c d s k (r .fields) in let v = a .item d in (u .0 ∙ v .0, u .1 ∙ v .1)
     go false = s
 
 -- records with one head whose rows are alike are taken alike

@@ -17,13 +17,14 @@ use Rattle.items.specs.Lists.{listOf}
 use Rattle.answers.specs.declared.Answer.{Answer}
 use Rattle.answers.specs.Answers.{isTaken}
 use Rattle.rules.specs.Rules.{Applies}
+use Rattle.items.specs.Laws.{list-by, items-same}
 use Rattle.rules.specs.Files.{rowsOf, spelledBy, AllTaken}
 use Rattle.collector.specs.declared.Case.{Case}
 use Rattle.collector.specs.Cases.{emptyCase, itemsOf}
 use Rattle.collector.specs.Taking.{takenOf, collectedFrom, collectedOf}
 use Rattle.collector.specs.Sound.{Sound}
 use Rattle.rules_laws.specs.Stages.{refuses}
-use Rattle.rules_laws.specs.Held.{list-by, items-same, sound-is-kept, taken-with}
+use Rattle.rules_laws.specs.Held.{sound-is-kept, taken-with}
 use Rattle.rules_laws.specs.Kept.{sound-empty, sound-kept}
 use Rattle.rules_laws.specs.Spelled.{lists-more, goes-on}
 use Rattle.rules_laws.specs.Theorems.{answers}

@@ -24,11 +24,13 @@ use Rattle.record_laws.specs.Spelled.{spell-length, spell-reads}
 use Rattle.kinds.specs.declared.Kind.{Kind}
 use Rattle.kinds.specs.declared.Kind.the-variants as kind
 use Rattle.kinds.specs.Kinds.{letterOf}
+use Rattle.kinds.specs.Laws.{one-kind}
 use Rattle.kinds.specs.Table.{isBlank, natural, shapeOf, ruleAt}
 use Rattle.items.specs.declared.LoopMark.the-variants as mark
 use Rattle.items.specs.declared.Place.{Place}
 use Rattle.items.specs.Items.{itemOf, markOf, placeOf, byteOf}
-use Rattle.items.specs.Lists.{Items, listOf, noItem}
+use Rattle.items.specs.Lists.{Items, listOf, noItem, withPlaces}
+use Rattle.items.specs.Laws.{but-places}
 use Rattle.answers.specs.Answers.{isTaken}
 use Rattle.checks.specs.Faults.{misspelled}
 use Rattle.rules.specs.Rules.{IsA, markAt}
@@ -38,7 +40,6 @@ use Rattle.collector.specs.Cases.{emptyCase}
 use Rattle.collector.specs.Taking.{takenOf, collectedFrom, collectedOf}
 use Rattle.collector.specs.Sound.{Fit}
 use Rattle.rules_laws.specs.Fields.{met}
-use Rattle.rules_laws.specs.Letters.{one-kind}
 use Rattle.rules_laws.specs.Held.{taken-with}
 use Rattle.rules_laws.specs.Spelled.{rows-same, rows-other, goes-on}
 use Rattle.rules_laws.specs.Theorems.{sound, spelled-case}
@@ -176,17 +177,9 @@ module _ (pre post : List ℕ) (i : ℕ) (w : Around pre post i) (is : (f : List
   with-rounds : (e f : List ℕ) (y : ℤ) (n : ℕ) → SaysNumber e y → SaysNumber f (pos n) → spelled (file f) ≡ withRounds (spelled (file e)) (length ps) n
   unfolding placesWith
   with-rounds e f y n u v =
-      λ j. record {
-        states = other kind.State refl j;
-        guards = other kind.Guard refl j;
-        moves = other kind.Move refl j;
-        sentences = other kind.Sentence refl j;
-        places = (places-are f (pos n) v ∙ sym set-place) j;
-      }
+      but-places (λ k o. others-are f (pos n) v k o ∙ sym (others-are e y u k o))
+      ∙ ap (withPlaces (spelled (file e))) (places-are f (pos n) v ∙ sym set-place)
     where
-      other : (k : Kind) → eqb (letterOf kind.Place) (letterOf k) ≡ false → listOf k (spelled (file f)) ≡ listOf k (spelled (file e))
-      other k o = others-are f (pos n) v k o ∙ sym (others-are e y u k o)
-
       set-place : placesWith (spelled (file e) .places) (length ps) n ≡ ps ++ (place (pos n) ∷ qs)
       set-place =
           ap (λ l. placesWith l (length ps) n) (places-are e y u)

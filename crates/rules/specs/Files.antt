@@ -2,15 +2,15 @@
 -- the files whose records are all taken, or are refused at some record.
 use mathlib.Core.List.{List, [], _∷_, map, _++_}
 use mathlib.Core.Bool.{cond}
-use Prim.Native.Nat.{ℕ, _+_, _<_}
+use Prim.Native.Nat.{ℕ, _<_}
 use lib.Dec.{eqb}
 use lib.ListN.{length, getD, take}
 use Rattle.record.specs.declared.Field.{Field}
 use Rattle.record.specs.Layout.{recordOf, cut}
 use Rattle.kinds.specs.declared.Kind.{Kind}
-use Rattle.kinds.specs.Kinds.{letterOf}
+use Rattle.kinds.specs.Kinds.{letterOf, total}
 use Rattle.items.specs.Items.{itemOf}
-use Rattle.items.specs.Lists.{Items, itemsBy}
+use Rattle.items.specs.Lists.{Items, itemsBy, countsOf}
 use Rattle.answers.specs.declared.Answer.{Answer}
 use Rattle.rules.specs.Rules.{Applies, IsFirst}
 
@@ -29,7 +29,7 @@ spelled bs = spelledBy (cut bs)
 
 -- how many items a case has
 abbrev pub itemCount : Items → ℕ
-itemCount x = length (x .states) + (length (x .guards) + (length (x .moves) + (length (x .sentences) + length (x .places))))
+itemCount x = total (countsOf x)
 
 -- no refusal applies to any record, where the records before it spell the case
 abbrev pub AllTaken : List (List ℕ) → Type 0

@@ -2,22 +2,26 @@
 use mathlib.Core.Path.{_≡_, refl, _∙_, sym, ap, subst, subst₂}
 use mathlib.Core.Logic.{_⊎_, inl, inr, ⊎-elim}
 use mathlib.Core.List.{List}
-use mathlib.Core.Bool.{Bool, true, cond, false≢true}
+use mathlib.Core.Bool.{Bool, true, and-eq-true-iff, false≢true}
 use Prim.Native.Nat.{ℕ, zero, suc, _-_, _≤_, _<_}
-use native.Mathlib.Nat.{le-refl}
 use native.Mathlib.Omega.{arith}
-use lib.Dec.{leb, ltb, lit≤}
+use lib.Dec.{leb, ltb}
 use lib.ListN.{length, getD}
-use borrow.Author.Tests.{ltb-true, lt-ltb}
+use borrow.Author.Tests.{eqb-false}
 use Rattle.laws.specs.Lowest.{lowest}
 use Rattle.laws.specs.Tests.{Tells, cond-by, tells-lt, tells-le, tells-and, tells-or}
 use Rattle.record.specs.Layout.{recordLength, lineFeed, recordOf}
 use Rattle.kinds.specs.declared.Kind.{Kind}
-use Rattle.kinds.specs.declared.Kind.the-variants.{State, Guard, Move, Sentence, Place}
+use Rattle.kinds.specs.declared.Kind.the-variants.{Sentence, Place}
 use Rattle.kinds.specs.declared.Shape.{Shape}
-use Rattle.kinds.specs.Kinds.{rankOf, countOf}
+use Rattle.kinds.specs.declared.Rule.the-variants.{Needed}
+use Rattle.kinds.specs.declared.Sort.the-variants.{Form}
+use Rattle.kinds.specs.Kinds.{letterOf, rankOf, same, countOf}
+use Rattle.kinds.specs.Last.{lastRank}
+use Rattle.kinds.specs.Laws.{one-kind, same-is, tells-last}
 use Rattle.kinds.specs.Table.{shapeOf, ruleAt, natural, isNumber}
 use Rattle.items.specs.Lists.{Items, listOf, countsOf, roomOf}
+use Rattle.items.specs.Laws.{counted-of}
 use Rattle.answers.specs.declared.Answer.{Answer}
 use Rattle.answers.specs.declared.Answer.the-variants.{Taken, NotARecord, NoLineFeed, NoSuchKind, Misspelled, Misfilled, OutOfRange, OutOfOrder, NoRoom, NotThere, Misplaced, WrongWayIn}
 use Rattle.answers.specs.Answers.{numberOf, fieldOf, testOrder, turnOf, isTaken}
@@ -30,12 +34,12 @@ use Rattle.collector.specs.declared.Loops.{Loops}
 use Rattle.collector.specs.declared.Derived.{Derived}
 use Rattle.collector.specs.declared.Case.{Case}
 use Rattle.collector.specs.Cases.{itemsOf, noLoops, loopsFrom}
-use Rattle.collector.specs.Taking.{isClosed, isOpen, isLong, wayAnswer, markAnswer, placeAnswer, layoutAnswer, thereAnswer, roomAnswer, lastRank, orderAnswer, recordAnswer, takenAs, takenBy, takenOf}
+use Rattle.collector.specs.Taking.{isClosed, isOpen, isLong, wayAnswer, markAnswer, placeAnswer, layoutAnswer, thereAnswer, roomAnswer, orderAnswer, recordAnswer, takenAs, takenBy, takenOf}
 use Rattle.collector.specs.Sound.{Sound}
 use Rattle.rules_laws.specs.Tells.{tells-blank, tells-number, tells-bad, tells-missing, tells-extra, tells-outside, tells-there, tells-form, tells-way}
-use Rattle.rules_laws.specs.Held.{counted-of, counts-are, derived}
+use Rattle.rules_laws.specs.Held.{counts-are, derived}
 use Rattle.rules_laws.specs.Loops.{closed-is, open-is}
-use Rattle.rules_laws.specs.Letters.{one-kind, by-head}
+use Rattle.rules_laws.specs.Letters.{by-head}
 use Rattle.rules_laws.specs.Stages.{Nowhere, no-lowest, numbered, Passed, Ends, renumbered, start, more, none, first, refuses, tested, fault-tested}
 
 -- a record's shape, if it is of kind k
@@ -46,11 +50,9 @@ shaped k bs = shapeOf k (recordOf bs)
 
 form-outside : (bs : List ℕ) (k : Kind) → wrongForm (shapeOf k (recordOf bs)) (recordOf bs) ≡ true → outside (ruleFor k (fieldsOf bs) 1) (contentAt bs 1) ≡ true
 unfolding shapeOf ruleAt
-form-outside bs State e = absurd (false≢true e)
-form-outside bs Guard e = absurd (false≢true e)
-form-outside bs Move e = absurd (false≢true e)
-form-outside bs Sentence e = e
-form-outside bs Place e = absurd (false≢true e)
+form-outside bs k e =
+    let (s, o) = and-eq-true-iff (same k Sentence) (outside (Needed Form) (contentAt bs 1)) .0 e in
+    subst (λ j. outside (ruleFor j (fieldsOf bs) 1) (contentAt bs 1) ≡ true) (sym (same-is k Sentence s)) o
 
 form-lowest : (bs : List ℕ) (k : Kind) → wrongForm (shapeOf k (recordOf bs)) (recordOf bs) ≡ true → Lowest (IsOutside k (fieldsOf bs)) 1
 unfolding ruleAt
@@ -66,30 +68,10 @@ module _ (x : Items) where
   abbrev Above : ℕ → Type 0
   Above m = (j : Kind) × (m < rankOf j) × (0 < length (listOf j x))
 
-  last-held : (m : ℕ) → m < lastRank (countsOf x) → Above m
-  last-held m =
-      rank-or Place _ (rank-or Sentence _ (rank-or Move _ (rank-or Guard 0 (λ h. absurd (omega arith)))))
-    where
-      rank-or : (j : Kind) (n : ℕ) → (m < n → Above m) → m < cond (ltb 0 (length (listOf j x))) (rankOf j) n → Above m
-      rank-or j n f = cond-by (λ r. m < r → Above m) (ltb 0 (length (listOf j x))) {x = rankOf j} {y = n} (λ e h. (j, h, ltb-true 0 _ e)) (λ e. f)
-
-  held-here : (j : Kind) (n : ℕ) → 0 < length (listOf j x) → rankOf j ≤ cond (ltb 0 (length (listOf j x))) (rankOf j) n
-  held-here j n h = rw (lt-ltb 0 (length (listOf j x)) h) (le-refl (rankOf j))
-
-  held-below : (m : ℕ) (j : Kind) (n : ℕ) → m ≤ rankOf j → m ≤ n → m ≤ cond (ltb 0 (length (listOf j x))) (rankOf j) n
-  held-below m j n g h = cond-by (λ r. m ≤ r) (ltb 0 (length (listOf j x))) {x = rankOf j} {y = n} (λ e. g) (λ e. h)
-
-  held-last : (j : Kind) → 0 < length (listOf j x) → rankOf j ≤ lastRank (countsOf x)
-  held-last State h = omega arith
-  held-last Guard h =
-      held-below 1 Place _ (lit≤ tt) (held-below 1 Sentence _ (lit≤ tt) (held-below 1 Move _ (lit≤ tt) (held-here Guard 0 h)))
-  held-last Move h = held-below 2 Place _ (lit≤ tt) (held-below 2 Sentence _ (lit≤ tt) (held-here Move _ h))
-  held-last Sentence h = held-below 3 Place _ (lit≤ tt) (held-here Sentence _ h)
-  held-last Place h = held-here Place _ h
-
   tells-order : (m : ℕ) → Tells (ltb m (lastRank (countsOf x))) (Above m)
   tells-order m =
-      (λ e. last-held m (ltb-true m _ e), λ h. lt-ltb m _ (omega (arith, h .1, held-last (h .0) (h .2))))
+      let w = tells-last (countsOf x) m in
+      (λ e. let (j, h, l) = w .0 e in (j, h, omega (arith, counted-of x j)), λ (j, h, l). w .1 (j, h, omega (arith, counted-of x j)))
 
   tells-room : (k : Kind) → Tells (leb (roomOf k) (countOf (countsOf x) k)) (roomOf k ≤ length (listOf k x))
   tells-room k = rw (counted-of x k) (tells-le (roomOf k) (length (listOf k x)))
@@ -176,11 +158,9 @@ module _ (x : Items) (bs : List ℕ) (l : Loops)
   no-place other p = inl (refl, more x bs 26 0 refl (λ f h. other (h .0)) (more x bs 25 26 refl (λ f h. other (h .0)) p))
 
   layout-ends : (k : Kind) → IsA k bs → Passed x bs 25 → Ends x bs 0 (layoutAnswer k (countsOf x) l (recordOf bs .fields))
-  layout-ends State is p = no-place (λ h. omega arith) p
-  layout-ends Guard is p = no-place (λ h. omega arith) p
-  layout-ends Move is p = no-place (λ h. omega arith) p
-  layout-ends Sentence is p = no-place (λ h. omega arith) p
-  layout-ends Place is p = place-ends is p
+  layout-ends k is p =
+      cond-by (Ends x bs 0) (same k Place) {x = placeAnswer l (length (x .places)) (recordOf bs .fields)} {y = Taken}
+      (λ e. place-ends (is ∙ ap letterOf (same-is k Place e)) p) (λ e. no-place (λ h. eqb-false (letterOf k) (letterOf Place) e (sym is ∙ h)) p)
 
   module _ (k : Kind) (is : IsA k bs) where
     there-ends : Passed x bs 23 → Ends x bs 0 (thereAnswer (countsOf x) l (shaped k bs) (recordOf bs))

@@ -3,23 +3,27 @@
 use mathlib.Core.Path.{_≡_, refl, _∙_, sym, ap, ap₂, subst}
 use mathlib.Core.List.{List, [], _∷_, _++_}
 use mathlib.Core.Bool.{Bool, true, false, true≢false, cond, _&&_, _||_}
-use Prim.Native.Nat.{ℕ, suc, _+_, _-_, _<_}
+use Prim.Native.Nat.{ℕ, suc, _+_, _-_, _≤_, _<_}
 use native.Mathlib.Omega.{arith}
 use lib.Dec.{eqb, leb, ltb}
 use lib.ListN.{length, take, set, replicate, getD, length-append, length-replicate}
 use lib.Seq.{take-append-seam, set-at, append-snoc}
-use borrow.Author.Tests.{leb-false, eqb-true, eq-eqb}
+use borrow.Author.Tests.{leb-false}
+use Rattle.laws.specs.Members.{sum-le}
 use Rattle.laws.specs.Tests.{cond-by, tells-not}
 use Rattle.record.specs.declared.Field.{Field}
 use Rattle.record.specs.declared.Record.{Record}
 use Rattle.record.specs.Layout.{fields, at, recordOf}
 use Rattle.kinds.specs.declared.Kind.{Kind}
-use Rattle.kinds.specs.declared.Kind.the-variants.{State, Guard, Move, Sentence, Place}
+use Rattle.kinds.specs.declared.Kind.the-variants.{Place}
 use Rattle.kinds.specs.declared.Counts.{Counts}
-use Rattle.kinds.specs.Kinds.{countOf, countsBy, same, letterOf, rankOf}
+use Rattle.kinds.specs.Kinds.{kinds, countOf, countsBy, overKinds, total, same, letterOf, rankOf}
+use Rattle.kinds.specs.Laws.{same-self, by-kind, count-by, counts-same}
+use Rattle.kinds.specs.Last.{lastRank}
 use Rattle.kinds.specs.Table.{shapeOf, natural, isNumber, isBlank}
-use Rattle.items.specs.Items.{Item, itemOf}
+use Rattle.items.specs.Items.{Item, itemOf, placeOf}
 use Rattle.items.specs.Lists.{Items, listOf, itemsBy, countsOf, roomOf, noItem}
+use Rattle.items.specs.Laws.{list-by, items-same, counted-of}
 use Rattle.answers.specs.declared.Answer.{Answer}
 use Rattle.answers.specs.declared.Answer.the-variants.{Taken, Misspelled, Misfilled, OutOfRange, OutOfOrder, NoRoom, NotThere, Misplaced, WrongWayIn}
 use Rattle.answers.specs.Answers.{isTaken}
@@ -33,70 +37,37 @@ use Rattle.rules.specs.Rules.{IsA}
 use Rattle.collector.specs.declared.Case.{Case}
 use Rattle.collector.specs.declared.Loops.{Loops}
 use Rattle.collector.specs.Cases.{changed, added, arraysOf, filled, caseBy, caseOf, itemsOf, noLoops, loopsAfter, loopsFrom, derivedOf, derivedAfter, oneMore, with, emptyCase}
-use Rattle.collector.specs.Taking.{takenOf, takenBy, takenAs, recordAnswer, lastRank, orderAnswer, roomAnswer, thereAnswer, layoutAnswer, placeAnswer, markAnswer, wayAnswer, isClosed, isOpen, isLong}
+use Rattle.collector.specs.Taking.{takenOf, takenBy, takenAs, recordAnswer, orderAnswer, roomAnswer, thereAnswer, layoutAnswer, placeAnswer, markAnswer, wayAnswer, isClosed, isOpen, isLong}
 use Rattle.collector.specs.Sound.{Sound, Fit, There}
-use Rattle.rules_laws.specs.Letters.{one-kind, by-head}
+use Rattle.rules_laws.specs.Letters.{by-head}
 use Rattle.rules_laws.specs.Loops.{loops-snoc}
 use Rattle.rules_laws.specs.Stages.{fault-none}
 use Rattle.rules_laws.specs.Tells.{tells-bad, tells-missing, tells-extra, tells-outside, tells-there}
 
 -- ---- kind by kind
 
-pub list-by : (f : (k : Kind) → List (Item k)) (k : Kind) → listOf k (itemsBy f) ≡ f k
-list-by f State = refl
-list-by f Guard = refl
-list-by f Move = refl
-list-by f Sentence = refl
-list-by f Place = refl
-
-pub count-by : (f : Kind → ℕ) (k : Kind) → countOf (countsBy f) k ≡ f k
-count-by f State = refl
-count-by f Guard = refl
-count-by f Move = refl
-count-by f Sentence = refl
-count-by f Place = refl
-
--- items, and counts, that are the same kind by kind are the same
-pub items-same : {x y : Items} → ((k : Kind) → listOf k x ≡ listOf k y) → x ≡ y
-items-same f = λ i. itemsBy (λ k. f k i)
-
-counts-same : {n m : Counts} → ((k : Kind) → countOf n k ≡ countOf m k) → n ≡ m
-counts-same f = λ i. countsBy (λ k. f k i)
-
--- what is true of kind k and of every other kind is true of all
-pub by-kind : (P : Kind → Type 0) (k : Kind) → P k → ((j : Kind) → same k j ≡ false → P j) → (j : Kind) → P j
-by-kind P k p f j =
-    cond-by (λ (z : ℕ). P j) (same k j) {x = 0} {y = 0} (λ e. subst P (one-kind (letterOf k) k j refl (eqb-true (letterOf k) (letterOf j) e)) p) (f j)
-
 -- where the items of kind k are changed, these are, and the others are not
-changed-same : (k : Kind) (f : List (Item k) → List (Item k)) (x : Items) → listOf k (changed k f x) ≡ f (listOf k x)
-changed-same State f x = refl
-changed-same Guard f x = refl
-changed-same Move f x = refl
-changed-same Sentence f x = refl
-changed-same Place f x = refl
+module _ (k : Kind) (f : (j : Kind) → List (Item j) → List (Item j)) (x : Items) where
+  abbrev lists : (j : Kind) → List (Item j)
+  lists j = cond (same k j) (f j (listOf j x)) (listOf j x)
 
-changed-other : (k : Kind) (f : List (Item k) → List (Item k)) (x : Items) (j : Kind) → same k j ≡ false → listOf j (changed k f x) ≡ listOf j x
-changed-other State f x = elim [ State ↦ λ e. absurd (true≢false e) | Guard ↦ λ e. refl | Move ↦ λ e. refl | Sentence ↦ λ e. refl | Place ↦ λ e. refl ]
-changed-other Guard f x = elim [ State ↦ λ e. refl | Guard ↦ λ e. absurd (true≢false e) | Move ↦ λ e. refl | Sentence ↦ λ e. refl | Place ↦ λ e. refl ]
-changed-other Move f x = elim [ State ↦ λ e. refl | Guard ↦ λ e. refl | Move ↦ λ e. absurd (true≢false e) | Sentence ↦ λ e. refl | Place ↦ λ e. refl ]
-changed-other Sentence f x = elim [ State ↦ λ e. refl | Guard ↦ λ e. refl | Move ↦ λ e. refl | Sentence ↦ λ e. absurd (true≢false e) | Place ↦ λ e. refl ]
-changed-other Place f x = elim [ State ↦ λ e. refl | Guard ↦ λ e. refl | Move ↦ λ e. refl | Sentence ↦ λ e. refl | Place ↦ λ e. absurd (true≢false e) ]
+  changed-same : listOf k (changed k f x) ≡ f k (listOf k x)
+  changed-same = list-by lists k ∙ ap (λ t. cond t (f k (listOf k x)) (listOf k x)) (same-self k)
+
+  changed-other : (j : Kind) → same k j ≡ false → listOf j (changed k f x) ≡ listOf j x
+  changed-other j e = list-by lists j ∙ ap (λ t. cond t (f j (listOf j x)) (listOf j x)) e
 
 module _ (n : Counts) (k : Kind) where
   abbrev more : Kind → ℕ
   more j = cond (same k j) (countOf n j + 1) (countOf n j)
 
   pub count-more : countOf (oneMore n k) k ≡ countOf n k + 1
-  count-more = count-by more k ∙ ap (λ t. cond t (countOf n k + 1) (countOf n k)) (eq-eqb (letterOf k) (letterOf k) refl)
+  count-more = count-by more k ∙ ap (λ t. cond t (countOf n k + 1) (countOf n k)) (same-self k)
 
   pub count-other : (j : Kind) → same k j ≡ false → countOf (oneMore n k) j ≡ countOf n j
   count-other j e = count-by more j ∙ ap (λ t. cond t (countOf n j + 1) (countOf n j)) e
 
 -- ---- the case that holds given items
-
-pub counted-of : (x : Items) (k : Kind) → countOf (countsOf x) k ≡ length (listOf k x)
-counted-of x = count-by (λ k. length (listOf k x))
 
 pub items-of : (x : Items) → itemsOf (caseOf x) ≡ x
 items-of x =
@@ -116,48 +87,50 @@ set-filled l r d y h =
     ∙ set-at l d (replicate m d) y (length l) refl
     ∙ sym (ap (λ k. (l ++ (y ∷ [])) ++ replicate k d) g ∙ append-snoc l y (replicate m d))
 
-derived-added : (x : Items) (k : Kind) (y : Item k) → derivedAfter (derivedOf x) (countsOf x) k y ≡ derivedOf (added x k y)
-derived-added x State y = refl
-derived-added x Guard y = refl
-derived-added x Move y = refl
-derived-added x Sentence y = refl
-derived-added x Place y =
-    let z : length (x .places) ≡ 0 + length (x .places) = omega arith in
-    let e : loopsAfter (loopsFrom noLoops 0 (x .places)) (length (x .places)) (y .mark) ≡ loopsFrom noLoops 0 (x .places ++ (y ∷ [])) =
-    ap (λ n. loopsAfter (loopsFrom noLoops 0 (x .places)) n (y .mark)) z ∙ sym (loops-snoc noLoops 0 (x .places) y) in
-    λ i. record { loops = e i }
+module _ (x : Items) (k : Kind) (r : List Field) where
+  abbrev put : (j : Kind) → List (Item j) → List (Item j)
+  put j l = l ++ (itemOf j r ∷ [])
 
-module _ (x : Items) (k : Kind) (y : Item k) where
-  pub added-same : listOf k (added x k y) ≡ listOf k x ++ (y ∷ [])
-  added-same = changed-same k (λ l. l ++ (y ∷ [])) x
+  pub added-same : listOf k (added x k r) ≡ listOf k x ++ (itemOf k r ∷ [])
+  added-same = changed-same k put x
 
-  pub added-other : (j : Kind) → same k j ≡ false → listOf j (added x k y) ≡ listOf j x
-  added-other = changed-other k (λ l. l ++ (y ∷ [])) x
+  pub added-other : (j : Kind) → same k j ≡ false → listOf j (added x k r) ≡ listOf j x
+  added-other = changed-other k put x
 
-  counts-added : oneMore (countsOf x) k ≡ countsOf (added x k y)
+  derived-added : derivedAfter (derivedOf x) (countsOf x) k r ≡ derivedOf (added x k r)
+  derived-added = λ i. record { loops = go (same k Place) i }
+    where
+      go : (t : Bool) → let l = loopsFrom noLoops 0 (x .places) in
+          cond t (loopsAfter l (length (x .places)) (placeOf r .mark)) l ≡ loopsFrom noLoops 0 (cond t (put Place (x .places)) (x .places))
+      go true =
+          let z : length (x .places) ≡ 0 + length (x .places) = omega arith in
+          ap (λ n. loopsAfter (loopsFrom noLoops 0 (x .places)) n (placeOf r .mark)) z ∙ sym (loops-snoc noLoops 0 (x .places) (placeOf r))
+      go false = refl
+
+  counts-added : oneMore (countsOf x) k ≡ countsOf (added x k r)
   counts-added =
-      counts-same (by-kind (λ j. countOf (oneMore (countsOf x) k) j ≡ countOf (countsOf (added x k y)) j) k
+      counts-same (by-kind (λ j. countOf (oneMore (countsOf x) k) j ≡ countOf (countsOf (added x k r)) j) k
       (count-more (countsOf x) k
       ∙ ap (λ n. n + 1) (counted-of x k)
-      ∙ sym (counted-of (added x k y) k ∙ ap length added-same ∙ length-append (listOf k x) (y ∷ [])))
-      (λ j e. count-other (countsOf x) k j e ∙ counted-of x j ∙ sym (counted-of (added x k y) j ∙ ap length (added-other j e))))
+      ∙ sym (counted-of (added x k r) k ∙ ap length added-same ∙ length-append (listOf k x) (itemOf k r ∷ [])))
+      (λ j e. count-other (countsOf x) k j e ∙ counted-of x j ∙ sym (counted-of (added x k r) j ∙ ap length (added-other j e))))
 
   arrays-added : length (listOf k x) < roomOf k →
-      changed k (λ xs. set xs (countOf (countsOf x) k) y) (itemsBy (filled x)) ≡ itemsBy (filled (added x k y))
+      changed k (λ j l. set l (countOf (countsOf x) j) (itemOf j r)) (itemsBy (filled x)) ≡ itemsBy (filled (added x k r))
   arrays-added h =
-      let f : List (Item k) → List (Item k) = λ xs. set xs (countOf (countsOf x) k) y in
-      items-same (by-kind (λ j. listOf j (changed k f (itemsBy (filled x))) ≡ listOf j (itemsBy (filled (added x k y)))) k
+      let f : (j : Kind) → List (Item j) → List (Item j) = λ j l. set l (countOf (countsOf x) j) (itemOf j r) in
+      items-same (by-kind (λ j. listOf j (changed k f (itemsBy (filled x))) ≡ listOf j (itemsBy (filled (added x k r)))) k
       (changed-same k f (itemsBy (filled x))
-      ∙ ap₂ (λ n l. set l n y) (counted-of x k) (list-by (filled x) k)
-      ∙ set-filled (listOf k x) (roomOf k) (noItem k) y h
-      ∙ sym (list-by (filled (added x k y)) k ∙ ap (λ l. l ++ replicate (roomOf k - length l) (noItem k)) added-same))
+      ∙ ap₂ (λ n l. set l n (itemOf k r)) (counted-of x k) (list-by (filled x) k)
+      ∙ set-filled (listOf k x) (roomOf k) (noItem k) (itemOf k r) h
+      ∙ sym (list-by (filled (added x k r)) k ∙ ap (λ l. l ++ replicate (roomOf k - length l) (noItem k)) added-same))
       (λ j e.
       changed-other k f (itemsBy (filled x)) j e
       ∙ list-by (filled x) j
-      ∙ sym (list-by (filled (added x k y)) j ∙ ap (λ l. l ++ replicate (roomOf j - length l) (noItem j)) (added-other j e))))
+      ∙ sym (list-by (filled (added x k r)) j ∙ ap (λ l. l ++ replicate (roomOf j - length l) (noItem j)) (added-other j e))))
 
-  with-is : length (listOf k x) < roomOf k → with (caseOf x) k y ≡ caseOf (added x k y)
-  with-is h = λ i. caseBy (counts-added i) (derived-added x k y i) (arrays-added h i)
+  with-is : length (listOf k x) < roomOf k → with (caseOf x) k r ≡ caseOf (added x k r)
+  with-is h = λ i. caseBy (counts-added i) (derived-added i) (arrays-added h i)
 
 -- ---- a case that is its items
 
@@ -181,6 +154,10 @@ pub counts-are : (c : Case) → Sound c → c .count ≡ countsOf (itemsOf c)
 counts-are c s = kept-counts c (s .same)
 
 module _ {c : Case} (s : Sound c) where
+  -- all that is held has room
+  pub total-room : total (c .count) ≤ overKinds roomOf
+  total-room = sum-le (countOf (c .count)) roomOf (s .room) kinds
+
   -- what is kept beside the items follows from them
   pub derived : c .derived ≡ derivedOf (itemsOf c)
   derived = ap (λ (d : Case). d .derived) (s .same)
@@ -197,25 +174,25 @@ module _ {c : Case} (s : Sound c) where
 
 -- ---- a case with one item more
 
-module _ (c : Case) (k : Kind) (x : Item k) (s : Kept c) (h : countOf (c .count) k < roomOf k) where
-  with-added : with c k x ≡ caseOf (added (itemsOf c) k x)
-  with-added = ap (λ (d : Case). with d k x) s ∙ with-is (itemsOf c) k x (omega (arith, kept-counted c s k))
+module _ (c : Case) (k : Kind) (r : List Field) (s : Kept c) (h : countOf (c .count) k < roomOf k) where
+  with-added : with c k r ≡ caseOf (added (itemsOf c) k r)
+  with-added = ap (λ (d : Case). with d k r) s ∙ with-is (itemsOf c) k r (omega (arith, kept-counted c s k))
 
-  pub items-with : itemsOf (with c k x) ≡ added (itemsOf c) k x
-  items-with = ap itemsOf with-added ∙ items-of (added (itemsOf c) k x)
+  pub items-with : itemsOf (with c k r) ≡ added (itemsOf c) k r
+  items-with = ap itemsOf with-added ∙ items-of (added (itemsOf c) k r)
 
-  pub kept-with : Kept (with c k x)
+  pub kept-with : Kept (with c k r)
   kept-with = with-added ∙ ap caseOf (sym items-with)
 
-  pub same-kind : listOf k (itemsOf (with c k x)) ≡ listOf k (itemsOf c) ++ (x ∷ [])
-  same-kind = ap (listOf k) items-with ∙ added-same (itemsOf c) k x
+  pub same-kind : listOf k (itemsOf (with c k r)) ≡ listOf k (itemsOf c) ++ (itemOf k r ∷ [])
+  same-kind = ap (listOf k) items-with ∙ added-same (itemsOf c) k r
 
-  pub other-list : (j : Kind) → same k j ≡ false → listOf j (itemsOf (with c k x)) ≡ listOf j (itemsOf c)
-  other-list j e = ap (listOf j) items-with ∙ added-other (itemsOf c) k x j e
+  pub other-list : (j : Kind) → same k j ≡ false → listOf j (itemsOf (with c k r)) ≡ listOf j (itemsOf c)
+  other-list j e = ap (listOf j) items-with ∙ added-other (itemsOf c) k r j e
 
-  pub other-kind : (j : Kind) → (j ≡ k → ⊥) → listOf j (itemsOf (with c k x)) ≡ listOf j (itemsOf c)
+  pub other-kind : (j : Kind) → (j ≡ k → ⊥) → listOf j (itemsOf (with c k r)) ≡ listOf j (itemsOf c)
   other-kind =
-      by-kind (λ j. (j ≡ k → ⊥) → listOf j (itemsOf (with c k x)) ≡ listOf j (itemsOf c)) k (λ d. absurd (d refl)) (λ j e d. other-list j e)
+      by-kind (λ j. (j ≡ k → ⊥) → listOf j (itemsOf (with c k r)) ≡ listOf j (itemsOf c)) k (λ d. absurd (d refl)) (λ j e d. other-list j e)
 
 -- ---- the empty case
 
@@ -232,7 +209,7 @@ empty-list k = ap (listOf k) (items-of (itemsBy (λ k. []))) ∙ list-by (λ k. 
 -- it leaves the whole case as it was
 same-by : (c : Case) (bs : List ℕ) (h : Head) → isTaken (takenBy c h bs .answer) ≡ false → takenBy c h bs .case ≡ c
 unfolding takenAs
-same-by c bs (Of k) e = ap (λ t. cond t (with c k (itemOf k (recordOf bs .fields))) c) e
+same-by c bs (Of k) e = ap (λ t. cond t (with c k (recordOf bs .fields)) c) e
 same-by c bs (Refused a) e = refl
 
 pub refused-same : (c : Case) (bs : List ℕ) → isTaken (takenOf c bs .answer) ≡ false → takenOf c bs .case ≡ c
@@ -259,7 +236,7 @@ pub record IsTaken (c : Case) (bs : List ℕ) : Type 0 where
   pub letter : getD bs 0 0 ≡ letterOf kind
   pub fit : Fit kind (recordOf bs .fields)
   pub next : Next (c .count) (c .derived .loops) kind (recordOf bs)
-  pub case : takenOf c bs .case ≡ with c kind (itemOf kind (recordOf bs .fields))
+  pub case : takenOf c bs .case ≡ with c kind (recordOf bs .fields)
 
 -- a stage with one test and a refusal
 passed : (t : Bool) (a b : Answer) → isTaken a ≡ false → isTaken (cond t a b) ≡ true → (t ≡ false) × (isTaken b ≡ true)
@@ -331,7 +308,7 @@ module _ (c : Case) (bs : List ℕ) where
         letter = r;
         fit = fit-is k bs (b .0);
         next = next-is (c .count) (c .derived .loops) k bs (b .1);
-        case = ap (λ h. takenBy c h bs .case) e ∙ ap (λ q. cond q (with c k (itemOf k (recordOf bs .fields))) c) t;
+        case = ap (λ h. takenBy c h bs .case) e ∙ ap (λ q. cond q (with c k (recordOf bs .fields)) c) t;
       }
 
   pub taken-with : isTaken (takenOf c bs .answer) ≡ true → IsTaken c bs

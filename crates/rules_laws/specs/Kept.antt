@@ -22,15 +22,16 @@ use Rattle.kinds.specs.declared.Kind.the-variants as kind
 use Rattle.kinds.specs.declared.Counts.{Counts}
 use Rattle.kinds.specs.declared.Sort.the-variants as sort
 use Rattle.kinds.specs.declared.Rule.the-variants as rule
-use Rattle.kinds.specs.Kinds.{countOf}
+use Rattle.kinds.specs.Kinds.{countOf, same}
+use Rattle.kinds.specs.Laws.{same-is, same-self, by-kind, count-by}
 use Rattle.kinds.specs.Table.{natural, isNumber, isBlank, neededIf, inFilled, ruleAt, shapeOf}
 use Rattle.items.specs.declared.Ref.{Ref}
 use Rattle.items.specs.declared.Ref.the-variants as ref
 use Rattle.items.specs.declared.LoopMark.{LoopMark}
 use Rattle.items.specs.declared.LoopMark.the-variants as mark
 use Rattle.items.specs.declared.Place.{Place}
-use Rattle.items.specs.Items.{Item, itemOf, rowOf, reference}
-use Rattle.items.specs.Lists.{roomOf, noItem, listOf}
+use Rattle.items.specs.Items.{Item, itemOf, placeOf, rowOf, reference}
+use Rattle.items.specs.Lists.{Items, roomOf, noItem, listOf}
 use Rattle.answers.specs.Answers.{isTaken}
 use Rattle.checks.specs.Faults.{outside}
 use Rattle.collector.specs.declared.Loops.{Loops}
@@ -40,7 +41,7 @@ use Rattle.collector.specs.Cases.{itemsOf, oneMore, with, noLoops, loopsFrom, e
 use Rattle.collector.specs.Taking.{isClosed, isOpen, isLong, takenOf}
 use Rattle.collector.specs.Sound.{Sound, Fit, There, reach, shape, LoopsApart}
 use Rattle.rules_laws.specs.Fields.{met, fields-again}
-use Rattle.rules_laws.specs.Held.{by-kind, count-more, count-other, counted, kept-counted, derived, same-kind, other-list, kept-with, empty-kept, empty-list, refused-same, Placed, IsTaken, taken-with}
+use Rattle.rules_laws.specs.Held.{count-more, count-other, counted, kept-counted, derived, items-with, same-kind, other-list, kept-with, empty-kept, empty-list, refused-same, Placed, IsTaken, taken-with}
 use Rattle.rules_laws.specs.Loops.{MarkFits, apart-snoc}
 
 -- ---- what is there stays there
@@ -49,26 +50,28 @@ use Rattle.rules_laws.specs.Loops.{MarkFits, apart-snoc}
 abbrev AtMost : Counts → Counts → Type 0
 AtMost n m = (k : Kind) → countOf n k ≤ countOf m k
 
--- with one item more; what an item reaches grows with what is held, and the new item reaches all that was held
+-- with one item more
 more : (n : Counts) (k : Kind) → AtMost n (oneMore n k)
 more n k =
     by-kind (λ j. countOf n j ≤ countOf (oneMore n k) j) k (omega (arith, count-more n k)) (λ j e. omega (arith, count-other n k j e))
 
+-- what an item reaches: of its own kind what comes before it, else all; it grows with what is held, and the next item reaches all that is held
+module _ (n : Counts) (k : Kind) (i : ℕ) where
+  reach-own : countOf (reach n k i) k ≡ i
+  reach-own = count-by (λ j. cond (same k j) i (countOf n j)) k ∙ ap (λ t. cond t i (countOf n k)) (same-self k)
+
+  reach-other : (j : Kind) → same k j ≡ false → countOf (reach n k i) j ≡ countOf n j
+  reach-other j e = count-by (λ j. cond (same k j) i (countOf n j)) j ∙ ap (λ t. cond t i (countOf n j)) e
+
 reaches : {n m : Counts} → AtMost n m → (k : Kind) (i : ℕ) → AtMost (reach n k i) (reach m k i)
-reaches a kind.State i = a
-reaches a kind.Guard i = a
-reaches a kind.Move i = a
-reaches a kind.Sentence i =
-    elim [ kind.State ↦ a kind.State | kind.Guard ↦ a kind.Guard | kind.Move ↦ a kind.Move | kind.Sentence ↦ le-refl i | kind.Place ↦ a kind.Place ]
-reaches a kind.Place i = a
+reaches {n} {m} a k i =
+    by-kind (λ j. countOf (reach n k i) j ≤ countOf (reach m k i) j) k (omega (arith, reach-own n k i, reach-own m k i))
+    (λ j e. omega (arith, reach-other n k i j e, reach-other m k i j e, a j))
 
 reaches-held : (n : Counts) (k : Kind) → AtMost n (reach (oneMore n k) k (countOf n k))
-reaches-held n kind.State = more n kind.State
-reaches-held n kind.Guard = more n kind.Guard
-reaches-held n kind.Move = more n kind.Move
-reaches-held n kind.Sentence =
-    elim [ kind.State ↦ le-refl _ | kind.Guard ↦ le-refl _ | kind.Move ↦ le-refl _ | kind.Sentence ↦ le-refl _ | kind.Place ↦ le-refl _ ]
-reaches-held n kind.Place = more n kind.Place
+reaches-held n k =
+    by-kind (λ j. countOf n j ≤ countOf (reach (oneMore n k) k (countOf n k)) j) k (omega (arith, reach-own (oneMore n k) k (countOf n k)))
+    (λ j e. omega (arith, reach-other (oneMore n k) k (countOf n k) j e, count-other n k j e))
 
 there-more : {n m : Counts} → AtMost n m → (k : Kind) (r : List Field) → There n k r → There m k r
 there-more {n} {m} a k r t f (z, d, h) =
@@ -145,13 +148,13 @@ all-snoc P l x d n e old new i h =
           subst (λ j. P j (getD (l ++ (x ∷ [])) j d)) q (subst (P n) (sym (getD-at l x [] d n e)) new)
     ]
 
--- the item x of kind k may come next
-record Fits (c : Case) (k : Kind) (x : Item k) : Type 0 where
+-- the item of kind k that the row r becomes may come next
+record Fits (c : Case) (k : Kind) (r : List Field) : Type 0 where
   room : countOf (c .count) k < roomOf k
-  fit : Fit k (rowOf k x)
-  there : There (c .count) k (rowOf k x)
-  read : itemOf k (rowOf k x) ≡ x
-  place : k ≡ kind.Place → Placed (c .derived .loops) (c .count .places) (rowOf k x)
+  fit : Fit k r
+  there : There (c .count) k r
+  again : rowOf k (itemOf k r) ≡ r
+  place : k ≡ kind.Place → Placed (c .derived .loops) (c .count .places) r
 
 -- what a sound case has of its n places ps
 record Places (n : ℕ) (ps : List Place) : Type 0 where
@@ -174,47 +177,63 @@ module _ (c : Case) (s : Sound c) where
   places : Places (c .count .places) (itemsOf c .places)
   places = record { ways = s .ways; loops = s .loops }
 
-  places-with : (k : Kind) (x : Item k) → Fits c k x → Places (with c k x .count .places) (itemsOf (with c k x) .places)
-  places-with kind.State x t = places
-  places-with kind.Guard x t = places
-  places-with kind.Move x t = places
-  places-with kind.Sentence x t = places
-  places-with kind.Place p t =
-      let n = c .count .places in
-      subst (Places (n + 1)) (sym (same-kind c kind.Place p (s .same) (t .room)))
-      (one-place n (itemsOf c .places) p (counted c s kind.Place) (t .room) places (t .fit)
-      (subst (λ (d : Derived). Placed (d .loops) n (rowOf kind.Place p)) (derived s) (t .place refl)))
+  module _ (k : Kind) (r : List Field) (t : Fits c k r) where
+    abbrev x : Item k
+    x = itemOf k r
 
-  module _ (k : Kind) (x : Item k) (t : Fits c k x) where
+    -- the row of the new item is as good as r
+    rowed : (P : List Field → Type 0) → P r → P (rowOf k x)
+    rowed P = subst P (sym (t .again))
+
+    places-with : Places (with c k r .count .places) (itemsOf (with c k r) .places)
+    places-with =
+        subst (λ (y : Items). Places (with c k r .count .places) (y .places)) (sym (items-with c k r (s .same) (t .room))) (go (same k kind.Place) refl)
+      where
+        n : ℕ
+        n = c .count .places
+
+        ps : List Place
+        ps = itemsOf c .places
+
+        here : k ≡ kind.Place → Places (n + 1) (ps ++ (placeOf r ∷ []))
+        here e =
+            let q : rowOf kind.Place (placeOf r) ≡ r = subst (λ j. rowOf j (itemOf j r) ≡ r) e (t .again) in
+            one-place n ps (placeOf r) (counted c s kind.Place) (subst (λ j. countOf (c .count) j < roomOf j) e (t .room)) places
+            (subst (Fit kind.Place) (sym q) (subst (λ j. Fit j r) e (t .fit)))
+            (subst₂ (λ (d : Derived) r. Placed (d .loops) n r) (derived s) (sym q) (t .place e))
+
+        go : (b : Bool) → same k kind.Place ≡ b → Places (cond b (n + 1) n) (cond b (ps ++ (placeOf r ∷ [])) ps)
+        go true e = here (same-is k kind.Place e)
+        go false e = places
+
     -- what is true of every item that is held, and of the next
     all-with : (P : (j : Kind) → ℕ → Item j → Type 0) →
         ((j : Kind) (i : ℕ) → i < countOf (c .count) j → P j i (getD (listOf j (itemsOf c)) i (noItem j))) →
         P k (countOf (c .count) k) x →
-        (j : Kind) (i : ℕ) → i < countOf (with c k x .count) j → P j i (getD (listOf j (itemsOf (with c k x))) i (noItem j))
+        (j : Kind) (i : ℕ) → i < countOf (with c k r .count) j → P j i (getD (listOf j (itemsOf (with c k r))) i (noItem j))
     all-with P old new =
-        by-kind (λ j. (i : ℕ) → i < countOf (with c k x .count) j → P j i (getD (listOf j (itemsOf (with c k x))) i (noItem j))) k
+        by-kind (λ j. (i : ℕ) → i < countOf (with c k r .count) j → P j i (getD (listOf j (itemsOf (with c k r))) i (noItem j))) k
         (subst₂ (λ n l. (i : ℕ) → i < n → P k i (getD l i (noItem k))) (sym (count-more (c .count) k))
-        (sym (same-kind c k x (s .same) (t .room)))
+        (sym (same-kind c k r (s .same) (t .room)))
         (all-snoc (P k) (listOf k (itemsOf c)) x (noItem k) (countOf (c .count) k) (counted c s k) (old k) new))
         (λ j o. subst₂ (λ n l. (i : ℕ) → i < n → P j i (getD l i (noItem j))) (sym (count-other (c .count) k j o))
-        (sym (other-list c k x (s .same) (t .room) j o)) (old j))
+        (sym (other-list c k r (s .same) (t .room) j o)) (old j))
 
-    sound-with : Sound (with c k x)
+    sound-with : Sound (with c k r)
     sound-with =
-        let p = places-with k x t in
         record {
-          same = kept-with c k x (s .same) (t .room);
+          same = kept-with c k r (s .same) (t .room);
           room =
-              by-kind (λ j. countOf (with c k x .count) j ≤ roomOf j) k (omega (arith, count-more (c .count) k, t .room))
+              by-kind (λ j. countOf (with c k r .count) j ≤ roomOf j) k (omega (arith, count-more (c .count) k, t .room))
               (λ j o. omega (arith, count-other (c .count) k j o, s .room j));
-          fit = all-with (λ j i y. Fit j (rowOf j y)) (s .fit) (t .fit);
+          fit = all-with (λ j i y. Fit j (rowOf j y)) (s .fit) (rowed (Fit k) (t .fit));
           there =
-              all-with (λ j i y. There (reach (with c k x .count) j i) j (rowOf j y))
+              all-with (λ j i y. There (reach (with c k r .count) j i) j (rowOf j y))
               (λ j i h. there-more (reaches (more (c .count) k) j i) j (rowOf j (getD (listOf j (itemsOf c)) i (noItem j))) (s .there j i h))
-              (there-more (reaches-held (c .count) k) k (rowOf k x) (t .there));
-          read = all-with (λ j i y. itemOf j (rowOf j y) ≡ y) (s .read) (t .read);
-          ways = p .ways;
-          loops = p .loops;
+              (there-more (reaches-held (c .count) k) k (rowOf k x) (rowed (There (c .count) k) (t .there)));
+          read = all-with (λ j i y. itemOf j (rowOf j y) ≡ y) (s .read) (ap (itemOf k) (t .again));
+          ways = places-with .ways;
+          loops = places-with .loops;
         }
 
 -- ---- the empty case, and a record more
@@ -235,18 +254,15 @@ sound-empty =
     none : (k : Kind) → countOf (emptyCase .count) k ≡ 0
     none k = sym (kept-counted emptyCase empty-kept k) ∙ ap length (empty-list k)
 
-taken-fits : (c : Case) (bs : List ℕ) (t : IsTaken c bs) → Fits c (t .kind) (itemOf (t .kind) (recordOf bs .fields))
+taken-fits : (c : Case) (bs : List ℕ) (t : IsTaken c bs) → Fits c (t .kind) (recordOf bs .fields)
 unfolding recordOf
 taken-fits c bs t =
-    let k = t .kind in
-    let r = recordOf bs .fields in
-    let e : r ≡ rowOf k (itemOf k r) = sym (fields-again k r refl (t .fit)) in
     record {
       room = t .next .room;
-      fit = subst (Fit k) e (t .fit);
-      there = subst (There (c .count) k) e (t .next .there);
-      read = ap (itemOf k) (sym e);
-      place = λ q. subst (Placed (c .derived .loops) (c .count .places)) e (t .next .place q);
+      fit = t .fit;
+      there = t .next .there;
+      again = fields-again (t .kind) (recordOf bs .fields) refl (t .fit);
+      place = t .next .place;
     }
 
 pub sound-kept : (c : Case) (bs : List ℕ) → Sound c → Sound (takenOf c bs .case)
@@ -255,5 +271,5 @@ sound-kept c bs s = go (isTaken (takenOf c bs .answer)) refl
     go : (b : Bool) → isTaken (takenOf c bs .answer) ≡ b → Sound (takenOf c bs .case)
     go true e =
         let t = taken-with c bs e in
-        subst Sound (sym (t .case)) (sound-with c s (t .kind) (itemOf (t .kind) (recordOf bs .fields)) (taken-fits c bs t))
+        subst Sound (sym (t .case)) (sound-with c s (t .kind) (recordOf bs .fields) (taken-fits c bs t))
     go false e = subst Sound (sym (refused-same c bs e)) s

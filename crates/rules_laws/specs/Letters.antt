@@ -1,7 +1,6 @@
--- The kind letter of a record, which names at most one kind; and its head, case by case. Assumes nothing.
-use mathlib.Core.Path.{_≡_, refl, _∙_, sym, ap}
-use mathlib.Core.List.{List}
-use mathlib.Core.Bool.{cond}
+-- The kind letter of a record, and its head, case by case. Assumes nothing.
+use mathlib.Core.Path.{_≡_, refl, _∙_, sym}
+use mathlib.Core.List.{List, [], _∷_}
 use Prim.Native.Nat.{ℕ, _-_}
 use native.Mathlib.Omega.{arith}
 use lib.Dec.{eqb}
@@ -10,23 +9,15 @@ use borrow.Author.Tests.{eqb-true, eqb-false}
 use Rattle.laws.specs.Tests.{cond-by}
 use Rattle.record.specs.Layout.{recordLength, lineFeed}
 use Rattle.kinds.specs.declared.Kind.{Kind}
-use Rattle.kinds.specs.declared.Kind.the-variants.{State, Guard, Move, Sentence, Place}
 use Rattle.kinds.specs.declared.Letter.{Letter}
 use Rattle.kinds.specs.declared.Letter.the-variants.{Names, Unknown}
-use Rattle.kinds.specs.Kinds.{letterOf, kindOf}
+use Rattle.kinds.specs.Kinds.{letterOf, kinds, kindIn, kindOf}
+use Rattle.kinds.specs.Laws.{kind-named}
 use Rattle.answers.specs.declared.Answer.the-variants.{NotARecord, NoLineFeed, NoSuchKind}
 use Rattle.checks.specs.declared.Head.{Head}
 use Rattle.checks.specs.declared.Head.the-variants.{Of, Refused}
 use Rattle.checks.specs.Input.{namedHead, endedHead, headOf}
 use Rattle.rules.specs.Rules.{IsA}
-
-named : (k : Kind) → kindOf (letterOf k) ≡ Names k
-unfolding kindOf
-named State = refl
-named Guard = refl
-named Move = refl
-named Sentence = refl
-named Place = refl
 
 -- b is the letter of the kind that it is said to name
 abbrev Reads : ℕ → Letter → Type 0
@@ -34,26 +25,16 @@ Reads b (Names k) = b ≡ letterOf k
 Reads b Unknown = Unit {0}
 
 module _ (b : ℕ) where
-  kind-named : (k : Kind) → b ≡ letterOf k → kindOf b ≡ Names k
-  kind-named k e = ap kindOf e ∙ named k
-
-  pub one-kind : (j k : Kind) → b ≡ letterOf j → b ≡ letterOf k → j ≡ k
-  one-kind j k p q =
-      let e : Names j ≡ Names k = sym (kind-named j p) ∙ kind-named k q in
-      cc
-
   unnamed : kindOf b ≡ Unknown → (k : Kind) → b ≡ letterOf k → ⊥
   unnamed e k q =
-      let d : Names k ≡ Unknown = sym (kind-named k q) ∙ e in
+      let d : Names k ≡ Unknown = sym (kind-named b k q) ∙ e in
       let z : _≡_ {A = ℕ} 0 1 = cc in
       omega arith
 
-  reads-or : (k : Kind) (l : Letter) → Reads b l → Reads b (cond (eqb b (letterOf k)) (Names k) l)
-  reads-or k l h = cond-by (Reads b) (eqb b (letterOf k)) {x = Names k} {y = l} (eqb-true b (letterOf k)) (λ e. h)
-
-  reads : Reads b (kindOf b)
-  unfolding kindOf
-  reads = reads-or State _ (reads-or Guard _ (reads-or Move _ (reads-or Sentence _ (reads-or Place Unknown tt))))
+  reads : (ks : List Kind) → Reads b (kindIn ks b)
+  unfolding kindIn
+  reads [] = tt
+  reads (k ∷ ks) = cond-by (Reads b) (eqb b (letterOf k)) {x = Names k} {y = kindIn ks b} (eqb-true b (letterOf k)) (λ e. reads ks)
 
 -- what is true of every head that a record may get is true of its own
 module _ (bs : List ℕ) (P : Head → Type 0) where
@@ -81,6 +62,6 @@ module _ (bs : List ℕ) (P : Head → Type 0) where
       cond-by P (eqb (getD bs (recordLength - 1) 0) lineFeed) {x = namedHead (kindOf (getD bs 0 0))} {y = Refused NoLineFeed}
       (λ f.
       let d = eqb-true (getD bs (recordLength - 1) 0) lineFeed f in
-      by-letter (kindOf (getD bs 0 0)) refl (reads (getD bs 0 0)) (none w d) (some w d))
+      by-letter (kindOf (getD bs 0 0)) refl (reads (getD bs 0 0) kinds) (none w d) (some w d))
       (λ f. unended w (eqb-false _ lineFeed f)))
       (λ e. short (eqb-false _ recordLength e))

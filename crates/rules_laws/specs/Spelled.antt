@@ -8,22 +8,24 @@ use lib.Dec.{eqb}
 use lib.ListN.{length, getD}
 use lib.Seq.{append-snoc}
 use borrow.Author.Tests.{eq-eqb}
+use Rattle.laws.specs.All.{sumOver}
 use Rattle.laws.specs.Tab.{length-tab}
+use Rattle.record.specs.declared.Field.{Field}
 use Rattle.record.specs.Layout.{fields, fieldAt, recordOf, cut}
 use Rattle.kinds.specs.declared.Kind.{Kind}
-use Rattle.kinds.specs.declared.Kind.the-variants.{State, Guard, Move, Sentence, Place}
 use Rattle.kinds.specs.declared.Counts.{Counts}
-use Rattle.kinds.specs.Kinds.{letterOf}
-use Rattle.items.specs.Items.{Item, itemOf, rowOf}
+use Rattle.kinds.specs.Kinds.{letterOf, countOf, total}
+use Rattle.kinds.specs.Laws.{by-kind, over-more}
+use Rattle.items.specs.Items.{itemOf, rowOf}
 use Rattle.items.specs.Lists.{listOf, itemsBy}
 use Rattle.answers.specs.Answers.{isTaken}
 use Rattle.rules.specs.Files.{rowsOf, spelledBy, itemCount}
 use Rattle.collector.specs.declared.Case.{Case}
 use Rattle.collector.specs.declared.Collected.{Collected}
-use Rattle.collector.specs.Cases.{itemsOf, with, emptyCase}
+use Rattle.collector.specs.Cases.{itemsOf, oneMore, emptyCase}
 use Rattle.collector.specs.Taking.{takenOf, collectedFrom, collectedOf}
 use Rattle.rules_laws.specs.Fields.{fields-again}
-use Rattle.rules_laws.specs.Held.{Kept, IsTaken, by-kind, same-kind, other-list, kept-with, kept-counts, empty-kept, empty-list, taken-with}
+use Rattle.rules_laws.specs.Held.{Kept, IsTaken, same-kind, other-list, kept-with, kept-counts, empty-kept, empty-list, taken-with}
 
 -- ---- one record
 
@@ -42,19 +44,8 @@ length-row : (b : List ℕ) → length (recordOf b .fields) ≡ fields
 unfolding recordOf
 length-row b = length-tab (fieldAt b) fields 0
 
--- the sum of the counts
-abbrev total : Counts → ℕ
-total n = n .states + (n .guards + (n .moves + (n .sentences + n .places)))
-
-total-more : (c : Case) (k : Kind) (x : Item k) → total (with c k x .count) ≡ total (c .count) + 1
-total-more c State x = omega arith
-total-more c Guard x = omega arith
-total-more c Move x = omega arith
-total-more c Sentence x = omega arith
-total-more c Place x = omega arith
-
 empty-size : itemCount (itemsOf emptyCase) ≡ 0
-unfolding emptyCase
+unfolding emptyCase sumOver
 empty-size = refl
 
 module _ (c : Case) (b : List ℕ) (rs : List (List ℕ)) (t : IsTaken c b) where
@@ -66,18 +57,18 @@ module _ (c : Case) (b : List ℕ) (rs : List (List ℕ)) (t : IsTaken c b) wher
       (λ j. listOf j (itemsOf (takenOf c b .case)) ++ map (itemOf j) (rowsOf j rs) ≡ listOf j (itemsOf c) ++ map (itemOf j) (rowsOf j (b ∷ rs)))
       k
       (ap (λ d. listOf k (itemsOf d) ++ map (itemOf k) (rowsOf k rs)) (t .case)
-      ∙ ap (λ l. l ++ map (itemOf k) (rowsOf k rs)) (same-kind c k x s (t .next .room))
-      ∙ append-snoc (listOf k (itemsOf c)) x (map (itemOf k) (rowsOf k rs))
+      ∙ ap (λ l. l ++ map (itemOf k) (rowsOf k rs)) (same-kind c k r s (t .next .room))
+      ∙ append-snoc (listOf k (itemsOf c)) (itemOf k r) (map (itemOf k) (rowsOf k rs))
       ∙ ap (λ l. listOf k (itemsOf c) ++ map (itemOf k) l) (sym (rows-same b rs k (t .letter))))
       (λ j o.
       ap (λ d. listOf j (itemsOf d) ++ map (itemOf j) (rowsOf j rs)) (t .case)
-      ∙ ap₂ (λ l r. l ++ map (itemOf j) r) (other-list c k x s (t .next .room) j o) (sym (rows-other b rs k (t .letter) j o)))
+      ∙ ap₂ (λ l r. l ++ map (itemOf j) r) (other-list c k r s (t .next .room) j o) (sym (rows-other b rs k (t .letter) j o)))
     where
       k : Kind
       k = t .kind
 
-      x : Item k
-      x = itemOf k (recordOf b .fields)
+      r : List Field
+      r = recordOf b .fields
 
   -- the fields of its item are its fields again
   rows-more : ((j : Kind) → map (rowOf j) (map (itemOf j) (rowsOf j rs)) ≡ rowsOf j rs) →
@@ -89,14 +80,18 @@ module _ (c : Case) (b : List ℕ) (rs : List (List ℕ)) (t : IsTaken c b) wher
       (λ j o. rw (rows-other b rs (t .kind) (t .letter) j o) (f j))
 
   kept-more : Kept c → Kept (takenOf c b .case)
-  kept-more s = subst Kept (sym (t .case)) (kept-with c (t .kind) (itemOf (t .kind) (recordOf b .fields)) s (t .next .room))
+  kept-more s = subst Kept (sym (t .case)) (kept-with c (t .kind) (recordOf b .fields) s (t .next .room))
 
   -- there is one item more
+  total-more : (n : Counts) (k : Kind) → total (oneMore n k) ≡ total n + 1
+  unfolding sumOver
+  total-more n k = over-more (countOf n) k
+
   pub size-more : Kept c → itemCount (itemsOf (takenOf c b .case)) ≡ itemCount (itemsOf c) + 1
   size-more s =
       ap total (sym (kept-counts (takenOf c b .case) (kept-more s)))
       ∙ ap (λ d. total (d .count)) (t .case)
-      ∙ total-more c (t .kind) (itemOf (t .kind) (recordOf b .fields))
+      ∙ total-more (c .count) (t .kind)
       ∙ ap (λ n. total n + 1) (kept-counts c s)
 
 -- ---- a row of records

@@ -2,12 +2,13 @@
 use mathlib.Core.Path.{_≡_, refl, _∙_, sym, ap, ap₂}
 use mathlib.Core.Logic.{_↔_, _⊎_, inl, inr, ⊎-elim}
 use mathlib.Core.List.{List}
-use mathlib.Core.Bool.{Bool, true, false, cond, _||_, true≢false, false≢true}
+use mathlib.Core.Bool.{Bool, true, false, cond, _&&_, _||_, true≢false, false≢true}
 use Prim.Native.Nat.{ℕ, zero, suc, _^_, _≤_, _<_}
 use native.Mathlib.Omega.{arith}
 use lib.Dec.{eqb, eqb·suc-zero}
 use lib.IntN.{ℤ, pos, negsuc}
 use lib.Signed.{ltZ}
+use borrow.Author.Tests.{eqb-false}
 use Rattle.laws.specs.Order.{zarith, lt-false}
 use Rattle.laws.specs.Arithmetic.{le-in, le-out}
 use Rattle.laws.specs.Tests.{Tells, neither, tells-le}
@@ -23,7 +24,8 @@ use Rattle.kinds.specs.declared.Sort.{Sort}
 use Rattle.kinds.specs.declared.Sort.the-variants as sort
 use Rattle.kinds.specs.declared.Rule.{Rule}
 use Rattle.kinds.specs.declared.Rule.the-variants.{Blank, Needed, Optional}
-use Rattle.kinds.specs.Kinds.{countOf}
+use Rattle.kinds.specs.Kinds.{letterOf, countOf, same}
+use Rattle.kinds.specs.Laws.{same-is}
 use Rattle.kinds.specs.Table.{isBlank, isNumber, rangeOf, shapeOf}
 use Rattle.checks.specs.Faults.{misspelled, missing, extra, beyond, outside, atLeast, dangling, notThere}
 use Rattle.checks.specs.Input.{wrongForm}
@@ -184,11 +186,11 @@ form-in-range c = (λ e z d. in-range sort.Form z .0 (ap (outside (Needed sort.F
 
 pub tells-form : (k : Kind) (r : Record) → (wrongForm (shapeOf k r) r ≡ false) ↔ HasForm k (r .fields)
 unfolding shapeOf
-tells-form kind.State r = (λ e q. absurd (let z : _≡_ {A = ℕ} 0 1 = cc in omega arith), λ h. refl)
-tells-form kind.Guard r = (λ e q. absurd (let z : _≡_ {A = ℕ} 0 1 = cc in omega arith), λ h. refl)
-tells-form kind.Move r = (λ e q. absurd (let z : _≡_ {A = ℕ} 0 1 = cc in omega arith), λ h. refl)
-tells-form kind.Sentence r = let w = form-in-range (at (r .fields) 1) in (λ e q. w .0 e, λ h. w .1 (h refl))
-tells-form kind.Place r = (λ e q. absurd (let z : _≡_ {A = ℕ} 0 1 = cc in omega arith), λ h. refl)
+tells-form k r = go (same k kind.Sentence) refl
+  where
+    go : (t : Bool) → same k kind.Sentence ≡ t → ((t && outside (Needed sort.Form) (at (r .fields) 1)) ≡ false) ↔ HasForm k (r .fields)
+    go true s = let w = form-in-range (at (r .fields) 1) in (λ e q. w .0 e, λ h. w .1 (h (same-is k kind.Sentence s)))
+    go false s = (λ e q. absurd (eqb-false (letterOf k) (letterOf kind.Sentence) s (ap letterOf q)), λ h. refl)
 
 -- ---- field 2 of a place, where n places are held
 

@@ -56,13 +56,12 @@ taken c bs s h =
     let t = taken-with c bs h in
     let k = t .kind in
     let r = recordOf bs .fields in
-    let x = itemOf k r in
     record {
       kind = k;
       named = t .letter;
-      item = ap (λ d. listOf k (itemsOf d)) (t .case) ∙ same-kind c k x (s .same) (t .next .room);
+      item = ap (λ d. listOf k (itemsOf d)) (t .case) ∙ same-kind c k r (s .same) (t .next .room);
       fields = fields-again k r refl (t .fit);
-      others = λ j n. ap (λ d. listOf j (itemsOf d)) (t .case) ∙ other-kind c k x (s .same) (t .next .room) j n;
+      others = λ j n. ap (λ d. listOf j (itemsOf d)) (t .case) ∙ other-kind c k r (s .same) (t .next .room) j n;
     }
 
 -- a case with the invariant is its items: what it keeps beside them follows from them

@@ -1,6 +1,7 @@
 -- The records of the file are taken; where one is refused what is collected says it all, and else the case, which is sound, is judged. Assumes nothing.
 use mathlib.Core.Path.{_≡_, _∙_, sym, ap, ap₂}
 use lib.ListN.{take}
+use Rattle.laws.specs.All.{sumOver}
 use Rattle.answers.specs.declared.Told.{Told}
 use Rattle.collector.specs.Cases.{emptyCase}
 use Rattle.collector.specs.Taking.{collectedOf}
@@ -40,6 +41,7 @@ told-requires : tie.Need-told-requires
 told-requires c κs = search needs
 
 returns : tie.Need-returns
+unfolding sumOver
 returns c =
     let i = c .before .before in
     answer-by (i .before .before)
@@ -58,6 +60,7 @@ cast-t10 : tie.Need-cast-t10
 cast-t10 c = search needs
 
 returns-2 : tie.Need-returns-2
+unfolding sumOver
 returns-2 c =
     let e = c .before .before in
     let r = e .before .before .take-all .result in

@@ -1,53 +1,27 @@
--- The tests of a place. Assumes nothing.
+-- Only a place has tests of its own. Assumes nothing.
+use mathlib.Core.Path.{_∙_, sym, subst}
+use Prim.Native.Nat.{_≤_}
 use borrow.Author.Needs.{needs}
+use Rattle.kinds.specs.declared.Kind.the-variants.{Place}
+use Rattle.kinds.specs.Kinds.{countOf}
+use Rattle.kinds.specs.Laws.{same-is}
+use Rattle.items.specs.Lists.{roomOf}
 use Rattle.collector.proofs.layout_answer.Statement.{statement}
 use Rattle.collector.proofs.layout_answer.Tie as tie
 
-enum-told : tie.Need-enum-told
-enum-told c = search needs
-
-enum-told-2 : tie.Need-enum-told-2
-enum-told-2 c = search needs
-
-enum-told-3 : tie.Need-enum-told-3
-enum-told-3 c = search needs
-
-enum-told-4 : tie.Need-enum-told-4
-enum-told-4 c = search needs
-
-enum-told-5 : tie.Need-enum-told-5
-enum-told-5 c = search needs
+is-requires : tie.Need-is-requires
+is-requires c κs = search needs
 
 place-answer-requires : tie.Need-place-answer-requires
-place-answer-requires c κs = simp (c .enum-told5 .given .1) at (c .before .before .pre)
+place-answer-requires c κs =
+    let a = c .before .before .args in
+    subst (λ k. countOf (a .count) k ≤ roomOf k) (same-is (a .kind) Place (sym (c .before .is .ensures) ∙ c .if1 .taken)) (c .before .before .pre)
 
 returns : tie.Need-returns
-returns c = search needs
+returns c = simp (sym (c .before .before .is .ensures) ∙ c .before .if1 .taken) (c .place-answer .ensures)
 
 returns-2 : tie.Need-returns-2
-returns-2 c = search needs
-
-returns-3 : tie.Need-returns-3
-returns-3 c = search needs
-
-returns-4 : tie.Need-returns-4
-returns-4 c = search needs
-
-returns-5 : tie.Need-returns-5
-returns-5 c = simp (c .before .enum-told5 .given .1) (c .place-answer .ensures)
+returns-2 c = simp (sym (c .before .is .ensures) ∙ c .if1 .left)
 
 pub layout-answer-spec : {M : Type 1} → statement M
-layout-answer-spec =
-    tie.close
-    (tie.spec
-    enum-told
-    enum-told-2
-    enum-told-3
-    enum-told-4
-    enum-told-5
-    place-answer-requires
-    returns
-    returns-2
-    returns-3
-    returns-4
-    returns-5)
+layout-answer-spec = tie.close (tie.spec is-requires place-answer-requires returns returns-2)

@@ -3,9 +3,10 @@ use mathlib.Core.Path.{_≡_, _∙_, sym}
 use native.Mathlib.Omega.{arith}
 use borrow.Author.Tests.{lt-ltb, le-ltb, le-leb, lt-leb}
 use Rattle.kinds.specs.Kinds.{rankOf, countOf}
+use Rattle.kinds.specs.Last.{lastRank}
 use Rattle.kinds.specs.Table.{shapeOf}
 use Rattle.items.specs.Lists.{roomOf}
-use Rattle.collector.specs.Taking.{lastRank, thereAnswer, roomAnswer, orderAnswer}
+use Rattle.collector.specs.Taking.{thereAnswer, roomAnswer, orderAnswer}
 use borrow.Author.Needs.{needs}
 use Rattle.collector.proofs.state_answer.Statement.{statement}
 use Rattle.collector.proofs.state_answer.Tie as tie

@@ -3,9 +3,11 @@ use mathlib.Core.Path.{_≡_, _∙_, sym, ap}
 use native.Mathlib.Omega.{arith}
 use borrow.Author.Needs.{needs}
 use borrow.Author.Tests.{not-true, not-false}
+use Rattle.laws.specs.All.{sumOver}
 use Rattle.kinds.specs.declared.Kind.the-variants as kind
 use Rattle.items.specs.Lists.{Items}
 use Rattle.collector.specs.Cases.{itemsOf}
+use Rattle.rules_laws.specs.Held.{total-room}
 use Rattle.answers.specs.declared.Judgement.the-variants.{Unfinished}
 use Rattle.meaning.specs.Judged.{startOf}
 use Rattle.verdict.specs.Verdict.{verdict}
@@ -71,15 +73,14 @@ module _ (c : tie.After-bit) where
 finished-requires : tie.Need-finished-requires
 finished-requires c κs = search needs
 
-held-requires : tie.Need-held-requires
-held-requires c κs =
-    let s = c .before .before .before .before .pre in
-    omega (arith, s .room kind.State, s .room kind.Guard, s .room kind.Move, s .room kind.Sentence, s .room kind.Place)
+total-requires : tie.Need-total-requires
+unfolding sumOver
+total-requires c κs = omega (arith, total-room (c .before .before .before .before .pre))
 
 returns : tie.Need-returns
 returns c =
     let d = c .before in
-    ap Unfinished (c .held .ensures) ∙ sym (unfinished (d .before .before .before .before .pre) (d .before .finished .ensures) (not-true _ (d .if1 .taken)))
+    ap Unfinished (c .total .ensures) ∙ sym (unfinished (d .before .before .before .before .pre) (d .before .finished .ensures) (not-true _ (d .if1 .taken)))
 
 element-copy-out-first : tie.Need-element-copy-out-first
 element-copy-out-first c = search needs
@@ -158,7 +159,7 @@ judge-spec =
     tie.close
     (tie.spec
     finished-requires
-    held-requires
+    total-requires
     returns
     element-copy-out-first
     returns-2

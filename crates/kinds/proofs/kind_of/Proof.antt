@@ -1,31 +1,31 @@
 -- The letter is one of the five or none of them. Assumes nothing.
 use borrow.Author.Tests.{ne-eqb}
-use Rattle.kinds.specs.Kinds.{kindOf}
+use Rattle.kinds.specs.Kinds.{kindIn}
 use Rattle.kinds.proofs.kind_of.Statement.{statement}
 use Rattle.kinds.proofs.kind_of.Tie as tie
 
 returns : tie.Need-returns
-unfolding kindOf
+unfolding kindIn
 returns c = simp (c .match .keys1)
 
 returns-2 : tie.Need-returns-2
-unfolding kindOf
+unfolding kindIn
 returns-2 c = simp (c .match .keys2)
 
 returns-3 : tie.Need-returns-3
-unfolding kindOf
+unfolding kindIn
 returns-3 c = simp (c .match .keys3)
 
 returns-4 : tie.Need-returns-4
-unfolding kindOf
+unfolding kindIn
 returns-4 c = simp (c .match .keys4)
 
 returns-5 : tie.Need-returns-5
-unfolding kindOf
+unfolding kindIn
 returns-5 c = simp (c .match .keys5)
 
 returns-6 : tie.Need-returns-6
-unfolding kindOf
+unfolding kindIn
 returns-6 c = simp (ne-eqb _ _ (c .match .rest .0 .0 .0 .0 .1), ne-eqb _ _ (c .match .rest .0 .0 .0 .1), ne-eqb _ _ (c .match .rest .0 .0 .1), ne-eqb _ _ (c .match .rest .0 .1), ne-eqb _ _ (c .match .rest .1))
 
 pub kind-of-spec : {M : Type 1} → statement M

@@ -4,6 +4,9 @@ use borrow.Author.Needs.{needs}
 use Rattle.collector.proofs.Case.empty.Statement.{statement}
 use Rattle.collector.proofs.Case.empty.Tie as tie
 
+none-requires : tie.Need-none-requires
+none-requires c κs = search needs
+
 no-guard-requires : tie.Need-no-guard-requires
 no-guard-requires c κs = search needs
 
@@ -15,7 +18,7 @@ no-place-requires c κs = search needs
 
 returns : tie.Need-returns
 unfolding emptyCase loopsFrom
-returns c = simp (c .before .before .no-guard .ensures, c .before .no-move .ensures, c .no-place .ensures)
+returns c = simp (c .before .before .before .none .ensures, c .before .before .no-guard .ensures, c .before .no-move .ensures, c .no-place .ensures)
 
 pub empty-spec : {M : Type 1} → statement M
-empty-spec = tie.close (tie.spec no-guard-requires no-move-requires no-place-requires returns)
+empty-spec = tie.close (tie.spec none-requires no-guard-requires no-move-requires no-place-requires returns)

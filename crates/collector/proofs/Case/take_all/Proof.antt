@@ -17,7 +17,7 @@ use Rattle.checks.specs.Input.{headOf}
 use Rattle.items.specs.Lists.{roomOf}
 use Rattle.answers.specs.Answers.{isTaken}
 use Rattle.collector.specs.Taking.{refusalOf, collectedFrom, collectedOf}
-use Rattle.collector.proofs.Laws.{cut-end, cut-next, part, rest, fair, stored, kept, placed, step, collected-next, collected-refused, has-room}
+use Rattle.collector.proofs.Laws.{cut-end, cut-next, part, rest, fair, stored, step, collected-next, collected-refused, has-room}
 use Rattle.collector.proofs.Case.take_all.Statement.{statement}
 use Rattle.collector.proofs.Case.take_all.Tie as tie
 
@@ -71,16 +71,17 @@ stored-so c =
     let d = c .before .before .before .before .before .before in
     let h = d .before .before .before in
     let b = h .before .before .before .before .before .before .loop .self in
-    let keep = kept b (h .head .given .0 .0) (d .read .result) in
+    let of : (i : Kind) → h .head .given .0 .0 ≡ i → stored b i (d .read .result) ≡ stored b (h .head .given .0 .0) (d .read .result) =
+    λ i e. ap (λ j. stored b j (d .read .result)) (sym e) in
     ⊎-elim
-    (λ w. w .4 ∙ keep kind.State _ (w .2 .ensures) (w .1 .given .1))
+    (λ w. w .4 ∙ rw (w .2 .ensures) (of kind.State (w .1 .given .1)))
     (⊎-elim
-    (λ w. w .4 ∙ keep kind.Guard _ (w .2 .ensures) (w .1 .given .1))
+    (λ w. w .4 ∙ rw (w .2 .ensures) (of kind.Guard (w .1 .given .1)))
     (⊎-elim
-    (λ w. w .4 ∙ keep kind.Move _ (w .2 .ensures) (w .1 .given .1))
+    (λ w. w .4 ∙ rw (w .2 .ensures) (of kind.Move (w .1 .given .1)))
     (⊎-elim
-    (λ w. w .4 ∙ keep kind.Sentence _ (w .2 .ensures) (w .1 .given .1))
-    (λ w. w .6 ∙ ap (placed b (w .2 .result)) (w .5 .ensures) ∙ keep kind.Place _ (w .2 .ensures) (w .1 .given .1)))))
+    (λ w. w .4 ∙ rw (w .2 .ensures) (of kind.Sentence (w .1 .given .1)))
+    (λ w. w .6 ∙ rw (w .5 .ensures, w .2 .ensures) (of kind.Place (w .1 .given .1))))))
     (c .match2 .came)
 
 loop-holds : tie.Need-loop-holds Inv-loop μ-loop

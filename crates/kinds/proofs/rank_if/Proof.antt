@@ -1,8 +1,8 @@
 -- A kind's rank where items of it are held. Assumes nothing.
 use borrow.Author.Tests.{lt-ltb, le-ltb}
 use borrow.Author.Needs.{needs}
-use Rattle.collector.proofs.rank_if.Statement.{statement}
-use Rattle.collector.proofs.rank_if.Tie as tie
+use Rattle.kinds.proofs.rank_if.Statement.{statement}
+use Rattle.kinds.proofs.rank_if.Tie as tie
 
 rank-requires : tie.Need-rank-requires
 rank-requires c κs = search needs
