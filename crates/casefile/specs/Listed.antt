@@ -15,7 +15,7 @@ use Rattle.record.specs.Layout.{fields, recordOf, cut}
 use Rattle.kinds.specs.declared.Kind.{Kind}
 use Rattle.kinds.specs.declared.Kind.the-variants as kind
 use Rattle.kinds.specs.declared.Shape.{Shape}
-use Rattle.kinds.specs.Kinds.{total}
+use Rattle.kinds.specs.Kinds.{countsTotal}
 use Rattle.kinds.specs.Table.{shapeOf}
 use Rattle.items.specs.declared.Ref.{Ref}
 use Rattle.items.specs.declared.Ref.the-variants as ref
@@ -105,7 +105,7 @@ module _ (c : Case) (s : Sound c) where
   held k = omega (arith, counted c s k, s .room k)
 
   pub within : itemCount x ≤ room
-  within = omega (arith, ap total (counts-are c s), total-room s)
+  within = omega (arith, ap countsTotal (counts-are c s), total-room s)
 
   -- the place of a way is there
   way-place : (w : Way) → Has (waysOf x) w → w .place < length (x .places)
@@ -117,10 +117,10 @@ module _ (c : Case) (s : Sound c) where
       (List·Memᴰ·append-cases (wayIn p (placeAt ps p .way)) k)
 
   -- a move that is named is there
-  abbrev There : Ref → Type 0
-  There r = (t : ℕ) → r ≡ ref.At t → t < length (x .moves)
+  abbrev MoveThere : Ref → Type 0
+  MoveThere r = (t : ℕ) → r ≡ ref.At t → t < length (x .moves)
 
-  way-move : (w : Way) → w .place < length (x .places) → There (moveNo (x .places) w)
+  way-move : (w : Way) → w .place < length (x .places) → MoveThere (moveNo (x .places) w)
   way-move w h t = go (w .back)
     where
       into : (p : ℕ) → p < length (x .places) → placeAt (x .places) p .way ≡ ref.At t → t < length (x .moves)
@@ -134,11 +134,11 @@ module _ (c : Case) (s : Sound c) where
       go true = facts c s .backs (w .place) t h
       go false = into (w .place) h
 
-  number-small : (r : Ref) → There r → judge.refNumber r < roomOf kind.Move
+  number-small : (r : Ref) → MoveThere r → judge.refNumber r < roomOf kind.Move
   number-small ref.None k = lit< tt
   number-small (ref.At t) k = omega (arith, k t refl, held kind.Move)
 
-  guards-small : (r : Ref) → There r → All (λ g. g < roomOf kind.Guard) (guardsOf (moveAt (x .moves) r))
+  guards-small : (r : Ref) → MoveThere r → All (λ g. g < roomOf kind.Guard) (guardsOf (moveAt (x .moves) r))
   unfolding moveAt
   guards-small ref.None k = none
   guards-small (ref.At t) k = all-map (λ g l. omega (arith, held kind.Guard)) (facts c s .guards t (k t refl))

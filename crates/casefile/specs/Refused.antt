@@ -82,14 +82,14 @@ stops (b ∷ rs) ps c m s e =
     ))
 
 -- the numbers of a file of which record k is refused, and the case that is held: the one that the records before it spell
-abbrev pub Ends : List ℕ → ℕ → Answer → Type 0
-Ends bs k a = (answerOf bs ≡ refusal k a) × (itemsOf (collectedOf emptyCase bs .case) ≡ spelledBy (take k (cut bs)))
+abbrev pub StopsAt : List ℕ → ℕ → Answer → Type 0
+StopsAt bs k a = (answerOf bs ≡ refusal k a) × (itemsOf (collectedOf emptyCase bs .case) ≡ spelledBy (take k (cut bs)))
 
-ends : (bs : List ℕ) → AllTaken (cut bs) ⊎ ((k : ℕ) × (a : Answer) × Refused [] (cut bs) k a × Ends bs k a)
+ends : (bs : List ℕ) → AllTaken (cut bs) ⊎ ((k : ℕ) × (a : Answer) × Refused [] (cut bs) k a × StopsAt bs k a)
 unfolding answerOf collectedOf emptyCase rowsOf
 ends bs = go (isTaken (collectedOf emptyCase bs .answer)) refl
   where
-    go : (t : Bool) → isTaken (collectedOf emptyCase bs .answer) ≡ t → AllTaken (cut bs) ⊎ ((k : ℕ) × (a : Answer) × Refused [] (cut bs) k a × Ends bs k a)
+    go : (t : Bool) → isTaken (collectedOf emptyCase bs .answer) ≡ t → AllTaken (cut bs) ⊎ ((k : ℕ) × (a : Answer) × Refused [] (cut bs) k a × StopsAt bs k a)
     go true e = inl (all-taken bs .1 e)
     go false e =
         let (k, r, n, l) = stops (cut bs) [] emptyCase 0 sound-empty refl e in
@@ -101,7 +101,7 @@ pub file-refused : (bs : List ℕ) → AllTaken (cut bs) ⊎ ((k : ℕ) × (a : 
 file-refused bs = ⊎-elim inl (λ (k, a, r, _). inr (k, a, r)) (ends bs)
 
 -- where record k is, the file is answered its refusal, and the case is the one that the records before it spell
-pub file-ends : (bs : List ℕ) (k : ℕ) (a : Answer) → Refused [] (cut bs) k a → Ends bs k a
+pub file-ends : (bs : List ℕ) (k : ℕ) (a : Answer) → Refused [] (cut bs) k a → StopsAt bs k a
 file-ends bs k a r =
     ⊎-elim (λ t. absurd (t k (r .there) a (r .first .applies)))
-    (λ (j, b, q, e). let (i, f) = one-refusal r q in subst (Ends bs k) f (subst (λ n. Ends bs n b) i e)) (ends bs)
+    (λ (j, b, q, e). let (i, f) = one-refusal r q in subst (StopsAt bs k) f (subst (λ n. StopsAt bs n b) i e)) (ends bs)

@@ -1,7 +1,6 @@
 // A whole case file: what it is answered. Its definitions, the demands and their theorems stand in specs/.
 ghost use mathlib.Core.Path.{_≡_};
 ghost use lib.ListN.{take};
-ghost use Rattle.answers.specs.Answers.{numbersOf};
 ghost use Rattle.casefile.specs.Answer.{answerOf};
 use answers::Judgement;
 use answers::Told;

@@ -3,7 +3,6 @@ ghost use mathlib.Core.Path.{_≡_};
 ghost use Prim.Native.Nat.{_^_};
 ghost use Rattle.kinds.specs.Table.{isBlank};
 ghost use Rattle.checks.specs.Faults.{misspelled, missing, extra, beyond, outside, atLeast, dangling, notThere, hasFault, lowestFault, good, faultFree, faultless};
-ghost use Rattle.answers.specs.Answers.{numberOf, fieldOf};
 ghost use Rattle.checks.specs.Input.{wrongForm, fieldsAnswer, headOf};
 use answers::Answer;
 use kinds::Counts;

@@ -8,14 +8,8 @@ use Rattle.kinds.specs.declared.Kind.{Kind}
 use Rattle.kinds.specs.declared.Kind.the-variants as kind
 use Rattle.kinds.specs.declared.Counts.{Counts}
 use Rattle.kinds.specs.Kinds.{countOf, countsBy, same}
-use Rattle.items.specs.declared.Ref.the-variants as ref
-use Rattle.items.specs.declared.Form.the-variants as form
 use Rattle.items.specs.declared.LoopMark.{LoopMark}
 use Rattle.items.specs.declared.LoopMark.the-variants as mark
-use Rattle.items.specs.declared.State.{State}
-use Rattle.items.specs.declared.Guard.{Guard}
-use Rattle.items.specs.declared.Move.{Move}
-use Rattle.items.specs.declared.Sentence.{Sentence}
 use Rattle.items.specs.declared.Place.{Place}
 use Rattle.items.specs.Items.{Item, itemOf, placeOf}
 use Rattle.items.specs.Lists.{itemsBy, Items, roomOf, noItem, listOf, countsOf}

@@ -12,7 +12,6 @@ ghost use Rattle.checks.specs.Faults.{lowestFault};
 ghost use Rattle.collector.specs.Cases.{emptyCase, loopsAfter};
 ghost use Rattle.items.specs.Lists.{noItem, roomOf};
 ghost use Rattle.collector.specs.Taking.{isClosed, isBarred, refusalOf, wayAnswer, placeAnswer, layoutAnswer, orderAnswer, recordAnswer, takenOf, collectedOf};
-ghost use Rattle.answers.specs.Answers.{isTaken};
 use answers::Answer;
 use checks::Fault;
 use checks::Head;

@@ -6,7 +6,7 @@ use lib.Dec.{eqb, ltb}
 use lib.ListN.{getD}
 use borrow.Author.Tests.{eq-eqb, ne-eqb}
 use Rattle.kinds.specs.declared.Kind.the-variants as kind
-use Rattle.kinds.specs.Kinds.{total}
+use Rattle.kinds.specs.Kinds.{countsTotal}
 use Rattle.items.specs.declared.Place.{Place}
 use Rattle.items.specs.Lists.{Items, noItem}
 use Rattle.answers.specs.declared.Judgement.{Judgement}
@@ -92,15 +92,15 @@ module _ {c : Case} (s : Sound c) where
   finished-is : isFinished ≡ finished x
   finished-is = rw (ap (λ (d : Derived). d .loops) (derived s), counted c s kind.Sentence, counted c s kind.Place)
 
-  held-is : total (c .count) ≡ itemCount x
-  held-is = ap total (counts-are c s)
+  held-is : countsTotal (c .count) ≡ itemCount x
+  held-is = ap countsTotal (counts-are c s)
 
-  judged : verdict x (startOf x) ≡ cond isFinished (cond (eqb (first .state) 0) (waysAnswer x) WrongStart) (Unfinished (total (c .count)))
+  judged : verdict x (startOf x) ≡ cond isFinished (cond (eqb (first .state) 0) (waysAnswer x) WrongStart) (Unfinished (countsTotal (c .count)))
   judged = verdict-is x ∙ sym (rw (finished-is, at-places s 0, held-is))
 
   -- where b tells whether 24 doesn't apply
   module _ {b : Bool} (e : b ≡ isFinished) where
-    pub unfinished : b ≡ false → verdict x (startOf x) ≡ Unfinished (total (c .count))
+    pub unfinished : b ≡ false → verdict x (startOf x) ≡ Unfinished (countsTotal (c .count))
     unfinished t = judged ∙ rw (sym e ∙ t)
 
     pub wrong-start : b ≡ true → (first .state ≡ 0 → ⊥) → verdict x (startOf x) ≡ WrongStart

@@ -29,7 +29,7 @@ use Rattle.tables.specs.declared.Firsts.{Firsts}
 use Rattle.tables.specs.Tables.{firstsOf}
 use Rattle.tables.specs.Reads.{at-places, at-moves, at-guards}
 use Rattle.guards.specs.Found.{found, found-start}
-use Rattle.marks.specs.Known.{first-is, rounds-are}
+use Rattle.tables.specs.Known.{first-is, rounds-are}
 use Rattle.judge.specs.Told.{isNamed, given}
 use Rattle.judge.specs.Laws.{ifThere, each, gather-two, gather-gather}
 use Rattle.judge.specs.Ways.{wayNo, isWay, ways-listed, move-held, move-below}

@@ -2,7 +2,7 @@
 ghost use mathlib.Core.Path.{_≡_};
 ghost use mathlib.Core.Bool.{cond, not, _&&_};
 ghost use lib.Dec.{eqb, ltb};
-ghost use Prim.Native.Nat.{_+_, _-_, _≤_, _<_, _^_};
+ghost use Prim.Native.Nat.{_+_, _-_, _≤_, _<_};
 ghost use Rattle.kinds.specs.declared.Kind.the-variants as kind;
 ghost use Rattle.collector.specs.Cases.{itemsOf};
 ghost use Rattle.items.specs.Lists.{roomOf};

@@ -60,5 +60,5 @@ abbrev pub overKinds : (Kind → ℕ) → ℕ
 overKinds f = sumOver f kinds
 
 -- how many items are held
-abbrev pub total : Counts → ℕ
-total n = overKinds (countOf n)
+abbrev pub countsTotal : Counts → ℕ
+countsTotal n = overKinds (countOf n)

@@ -7,7 +7,7 @@ use Prim.Native.Nat.{ℕ, zero, suc, _+_, _≤_, _<_}
 use native.Mathlib.Omega.{arith}
 use native.Mathlib.Decide.{decLt}
 use lib.Dec.{eqb, ltb}
-use lib.ListN.{length, getD}
+use lib.ListN.{length}
 use borrow.Author.Tests.{eqb-true, eqb-false, eq-eqb, ne-eqb, ltb-true, lt-ltb, ltb-false, not-false}
 use Rattle.laws.specs.All.{sumOver}
 use Rattle.laws.specs.Lowest.{lowest, lowest-none}
@@ -15,10 +15,9 @@ use Rattle.laws.specs.Members.{Has, allOf, holds-all, sum-more}
 use Rattle.laws.specs.Tests.{Tells, cond-by}
 use Rattle.kinds.specs.declared.Kind.{Kind}
 use Rattle.kinds.specs.declared.Kind.the-variants.{State, Guard, Move, Sentence, Place}
-use Rattle.kinds.specs.declared.Letter.{Letter}
-use Rattle.kinds.specs.declared.Letter.the-variants.{Names, Unknown}
+use Rattle.kinds.specs.declared.Letter.the-variants.{Names}
 use Rattle.kinds.specs.declared.Counts.{Counts}
-use Rattle.kinds.specs.Kinds.{letterOf, kinds, same, rankOf, kindIn, kindOf, countOf, countsBy, overKinds, total}
+use Rattle.kinds.specs.Kinds.{letterOf, kinds, same, rankOf, kindIn, kindOf, countOf, countsBy, overKinds}
 use Rattle.kinds.specs.Last.{kindAt, lastBelow, lastRank}
 
 -- ---- letters

@@ -8,7 +8,7 @@ ghost use lib.ListN.{replicate};
 ghost use Rattle.laws.specs.Lists.{nth};
 ghost use Rattle.kinds.specs.declared.Rule.the-variants as rule;
 ghost use Rattle.kinds.specs.declared.Sort.the-variants.{Form};
-ghost use Rattle.kinds.specs.Kinds.{kindOf, rankOf, same, countOf, countsBy, total};
+ghost use Rattle.kinds.specs.Kinds.{kindOf, rankOf, same, countOf, countsBy, countsTotal};
 ghost use Rattle.kinds.specs.Last.{lastRank};
 ghost use Rattle.kinds.specs.Table.{neededIf, rangeOf, flagOf, isNumber, natural, shapeOf, ruleAt, stateRow, guardRow, moveRow, sentenceRow, placeRow, counters, inFilled};
 use record::Content;
@@ -152,8 +152,8 @@ impl Counts {
 
     // How many items are held.
     pub fn total(self) -> usize
-        requires { ⌜ total self < 2 ^ 64 ⌝ }
-        ensures { λ r. ⌜ r ≡ total self ⌝ }
+        requires { ⌜ countsTotal self < 2 ^ 64 ⌝ }
+        ensures { λ r. ⌜ r ≡ countsTotal self ⌝ }
     {
         self.states + (self.guards + (self.moves + (self.sentences + self.places)))
     }

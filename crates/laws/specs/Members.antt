@@ -1,4 +1,4 @@
--- Laws of what is true of all of a list, of the first of which it isn't, and membership. Assumes nothing.
+-- Laws of what is true of all of a list, of the first of which it isn't, membership, tests of a list and sums over it. Assumes nothing.
 use mathlib.Core.Path.{_≡_, refl, _∙_, sym, ap, subst}
 use mathlib.Core.Bool.{Bool, true, false, cond, _&&_, and-eq-true-iff}
 use mathlib.Core.Logic.{_↔_, ⊎-elim}
@@ -6,6 +6,7 @@ use mathlib.Core.List.{List, [], _∷_, map, List·Memᴰ, List·Memᴰ·head, L
 use Prim.Native.Nat.{ℕ, zero, suc, _+_, _≤_, _<_}
 use native.Mathlib.Nat.{eq-or-lt-of-le}
 use native.Mathlib.Omega.{arith}
+use lib.ListN.{getD}
 use Rattle.laws.specs.All.{All, none, also, First, this, later, from, gather, sumOver}
 
 -- ---- the first that is bad, where none is both good and bad
@@ -105,6 +106,12 @@ pub holds-all : {A : Type 0} (t : A → Bool) {l : List A} {a : A} → allOf t l
 unfolding allOf
 holds-all t e (List·Memᴰ·head {x = b} {xs = l} h) = ap t h ∙ and-eq-true-iff (t b) (allOf t l) .0 e .0
 holds-all t e (List·Memᴰ·tail {x = b} {xs = l} m) = holds-all t (and-eq-true-iff (t b) (allOf t l) .0 e .1) m
+
+pub holds-at : {A : Type 0} (t : A → Bool) (l : List A) (d : A) → allOf t l ≡ true → t d ≡ true → (i : ℕ) → t (getD l i d) ≡ true
+unfolding allOf
+holds-at t [] d e h i = h
+holds-at t (a ∷ l) d e h zero = and-eq-true-iff (t a) (allOf t l) .0 e .0
+holds-at t (a ∷ l) d e h (suc i) = holds-at t l d (and-eq-true-iff (t a) (allOf t l) .0 e .1) h i
 
 -- ---- sums
 

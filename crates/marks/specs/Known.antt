@@ -1,13 +1,11 @@
--- What the code reads of a place, in the case and in the tables of judging. Assumes nothing.
-use mathlib.Core.Path.{_≡_, refl, sym, _∙_, ap, ap₂, subst}
+-- What the code reads of a place and of a sentence, for their marks. Assumes nothing.
+use mathlib.Core.Path.{_≡_, sym, _∙_, ap, ap₂, subst}
 use mathlib.Core.Bool.{Bool, cond}
-use Prim.Native.Nat.{ℕ, suc, _+_, _≤_, _<_}
-use native.Mathlib.Decide.{decLt}
+use Prim.Native.Nat.{ℕ, suc, _+_, _<_}
 use native.Mathlib.Omega.{arith}
 use lib.Dec.{leb}
-use lib.ListN.{length, getD, List·getD-eq-default}
+use lib.ListN.{getD}
 use Rattle.kinds.specs.declared.Kind.the-variants as kind
-use Rattle.counters.specs.declared.Counters.{Counters}
 use Rattle.items.specs.declared.State.{State}
 use Rattle.items.specs.declared.Form.{Form}
 use Rattle.items.specs.declared.Sentence.{Sentence}
@@ -20,42 +18,29 @@ use Rattle.rules_laws.specs.Held.{counted}
 use Rattle.meaning.specs.Run.{stretch, placeAt}
 use Rattle.meaning.specs.Truth.{bit}
 use Rattle.meaning.specs.Judged.{startOf, stateAt, marked}
-use Rattle.meaning_laws.specs.Given.{facts}
+use Rattle.meaning_laws.specs.Given.{by-end, facts}
 use Rattle.verdict.specs.declared.Throughout.{Throughout}
-use Rattle.verdict.specs.Rounds.{firstOf, loopOf, roundsOf, flag}
-use Rattle.verdict.specs.Forward.{drift, base}
+use Rattle.verdict.specs.Rounds.{roundsOf, flag}
 use Rattle.verdict.specs.Verdict.{nextBy, nextThrough, formThrough, isAlways, isNever}
 use Rattle.tables.specs.declared.Firsts.{Firsts}
-use Rattle.tables.specs.declared.Tables.{Tables}
-use Rattle.tables.specs.Tables.{vecOf, firstsOf, tablesOf}
-use Rattle.tables.specs.Entries.{first-at, values-at}
+use Rattle.tables.specs.Tables.{firstsOf}
+use Rattle.tables.specs.Known.{first-is}
 use Rattle.tables.specs.Reads.{at-states, at-sentences, at-places}
-use Rattle.tables.specs.Stretches.{first-below, mark-is, end-in}
 use Rattle.marks.specs.Wrong.{isRight, wrongIn, formAt, wrongOf, sameAlways, simpleThrough}
 use Rattle.marks.specs.Ranged.{Ranged, ranged}
 
+-- ---- whether the next moment's sentence holds, at place p
+
 module _ {c : Case} (s : Sound c) {f : Firsts} (e : f ≡ firstsOf (itemsOf c .places)) (p : ℕ) (h : p < roomOf kind.Place) where
-  -- the items, the first place of the stretch of place p, as the table has it, and what stands there
   abbrev x : Items
   x = itemsOf c
 
+  -- the first place of the stretch of place p, as the table has it, and what stands there
   abbrev q : ℕ
   q = getD (f .at) p 0
 
   abbrev place : Place
   place = getD (c .places) q (noItem kind.Place)
-
-  pub first-is : q ≡ firstOf (x .places) p
-  first-is = first-at (x .places) e p h
-
-  pub first-within : q < roomOf kind.Place
-  first-within = first-below s p h first-is
-
-  pub rounds-are : roundsOf (place .mark) ≡ roundsOf (loopOf (x .places) p)
-  rounds-are = ap roundsOf (mark-is s p h first-is)
-
-  pub end-within : q + stretch (place .mark) ≤ roomOf kind.Place
-  end-within = end-in s p h first-is refl .1
 
   pub next-is : (a : ℕ) {again out : Bool} → again ≡ bit (place .marks) a → out ≡ marked x a (suc p)
       → cond (leb (q + stretch (place .mark)) (suc p)) (nextBy (roundsOf (place .mark)) again out) (flag out) ≡ nextThrough x a p
@@ -64,42 +49,29 @@ module _ {c : Case} (s : Sound c) {f : Firsts} (e : f ≡ firstsOf (itemsOf c .p
       (ap₂
       (λ (i : ℕ) (y : Place).
       cond (leb (i + stretch (y .mark)) (suc p)) (nextBy (roundsOf (y .mark)) (bit (y .marks) a) (marked x a (suc p))) (flag (marked x a (suc p))))
-      first-is (at-places s q ∙ ap (placeAt (x .places)) first-is))
-
--- ---- the counters of a place that is held
-
-module _ {c : Case} (s : Sound c) {t : Tables} (e : t ≡ tablesOf (itemsOf c)) (p : ℕ) (h : p < length (itemsOf c .places)) where
-  pub base-is : (d : Counters) → getD (t .bases .at) p d ≡ vecOf (λ j. base (itemsOf c) (startOf (itemsOf c)) j p)
-  base-is d = values-at (length (itemsOf c .places)) (base (itemsOf c) (startOf (itemsOf c))) (ap (λ (t : Tables). t .bases) e) p d h
-
-  pub drift-is : (d : Counters) → getD (t .drifts .at) p d ≡ vecOf (λ j. drift (itemsOf c) j (firstOf (itemsOf c .places) p))
-  drift-is d = values-at (length (itemsOf c .places)) (λ j i. drift (itemsOf c) j (firstOf (itemsOf c .places) i)) (ap (λ (t : Tables). t .drifts) e) p d h
+      (first-is s e p h) (at-places s q ∙ ap (placeAt (x .places)) (first-is s e p h)))
 
 -- ---- the state and the marks of a place
 
 module _ {c : Case} (s : Sound c) (p : ℕ) where
   -- what stands at place p
-  abbrev here : Place
-  here = getD (c .places) p (noItem kind.Place)
+  abbrev placeHere : Place
+  placeHere = getD (c .places) p (noItem kind.Place)
 
-  pub state-within : here .state < roomOf kind.State
+  pub state-within : placeHere .state < roomOf kind.State
   state-within =
       rw (at-places s p)
-      (elim (decLt p (length (itemsOf c .places))) [
-        | yes h ↦ omega (arith, facts c s .states p h, counted c s kind.State, s .room kind.State)
-        | no h ↦
-            subst (λ (y : Place). y .state < roomOf kind.State)
-            (sym (List·getD-eq-default (itemsOf c .places) (noItem kind.Place) {n = p} (omega arith))) (omega arith)
-      ])
+      (by-end (λ (y : Place). y .state < roomOf kind.State) (itemsOf c .places) (noItem kind.Place) p
+      (λ h. omega (arith, facts c s .states p h, counted c s kind.State, s .room kind.State)) (omega arith))
 
   pub simple-is : (φ : Form) →
-      flag (sameAlways φ (getD (c .states) (here .state) (noItem kind.State) .propositions) (here .marks)) ≡ simpleThrough (itemsOf c) φ p
+      flag (sameAlways φ (getD (c .states) (placeHere .state) (noItem kind.State) .propositions) (placeHere .marks)) ≡ simpleThrough (itemsOf c) φ p
   simple-is φ =
       ap (λ (y : Place). flag (sameAlways φ (getD (c .states) (y .state) (noItem kind.State) .propositions) (y .marks))) (at-places s p)
       ∙ ap (λ (z : State). flag (sameAlways φ (z .propositions) (placeAt (itemsOf c .places) p .marks))) (at-states s (stateAt (itemsOf c) p))
 
   -- the mark of sentence i there, against what the sentence is by f
-  pub right-is : (i : ℕ) (f : ℕ → Throughout) {b : Bool} {t : Throughout} → b ≡ bit (here .marks) i → t ≡ f p
+  pub right-is : (i : ℕ) (f : ℕ → Throughout) {b : Bool} {t : Throughout} → b ≡ bit (placeHere .marks) i → t ≡ f p
       → cond b (isAlways t) (isNever t) ≡ isRight (itemsOf c) i f p
   right-is i f k r = ap₂ (λ (b : Bool) (t : Throughout). cond b (isAlways t) (isNever t)) (k ∙ ap (λ (y : Place). bit (y .marks) i) (at-places s p)) r
 

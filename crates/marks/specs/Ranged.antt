@@ -1,19 +1,13 @@
 -- The coefficients of a sentence are in their range, so the labels of the places are light. Assumes nothing.
-use mathlib.Core.Path.{_≡_, sym, subst}
-use mathlib.Core.Bool.{Bool, false}
+use mathlib.Core.Bool.{Bool}
 use Prim.Native.Nat.{ℕ, _≤_}
-use native.Mathlib.Decide.{decLt}
 use native.Mathlib.Omega.{arith}
-use lib.IntN.{ℤ, pos, negℤ}
-use lib.Signed.{ltZ}
-use lib.ListN.{getD, List·getD-eq-default}
-use Rattle.laws.specs.Order.{lt-false}
-use Rattle.laws.specs.Arithmetic.{le-in}
+use lib.IntN.{ℤ}
+use lib.ListN.{getD}
 use Rattle.laws.specs.Sizes.{size, add-size, Within, within-size}
-use Rattle.laws.specs.Tests.{cond-by, neither}
-use Rattle.record.specs.declared.Content.the-variants.{Number}
+use Rattle.laws.specs.Tests.{cond-by}
 use Rattle.kinds.specs.declared.Kind.the-variants as kind
-use Rattle.kinds.specs.Table.{fromTo, ruleAt, shapeOf}
+use Rattle.kinds.specs.Table.{ruleAt, shapeOf}
 use Rattle.items.specs.declared.Term.{Term}
 use Rattle.items.specs.declared.Term.the-variants as term
 use Rattle.items.specs.declared.Form.{Form}
@@ -21,12 +15,12 @@ use Rattle.items.specs.declared.Form.the-variants as form
 use Rattle.items.specs.declared.Sentence.{Sentence}
 use Rattle.items.specs.Lists.{noItem}
 use Rattle.items.specs.Items.{rowOf}
-use Rattle.checks.specs.Faults.{beyond}
 use Rattle.collector.specs.declared.Case.{Case}
 use Rattle.collector.specs.Cases.{itemsOf}
 use Rattle.collector.specs.Sound.{Sound, Fit}
 use Rattle.rules_laws.specs.Fields.{met}
 use Rattle.rules_laws.specs.Held.{counted}
+use Rattle.meaning_laws.specs.Given.{by-end, field-within}
 use Rattle.verdict.specs.Labels.{worth, weightOf, labelOf}
 use Rattle.maxplus.specs.Bounds.{Light}
 
@@ -47,21 +41,12 @@ Ranged (form.Until a b z t u) = Mild t × Mild u
 
 -- ---- every sentence of a case with the invariant is such
 
--- a field with a coefficient
-abbrev InRange : ℤ → Type 0
-InRange z = beyond (fromTo (negℤ (pos 999)) (pos 999)) (Number z) ≡ false
-
-within : (z : ℤ) → InRange z → Within 999 z
-within z e =
-    let b = neither (ltZ z (negℤ (pos 999))) (ltZ (pos 999) z) e in
-    (le-in (lt-false z (negℤ (pos 999)) (b .0)), le-in (lt-false (pos 999) z (b .1)))
-
 terms-ranged : (a b : ℕ) (z : ℤ) (t u : Term) → Fit kind.Sentence (rowOf kind.Sentence (record { form = form.Until a b z t u })) → Mild t × Mild u
 unfolding rowOf ruleAt shapeOf
 terms-ranged a b z term.None term.None f = (tt, tt)
-terms-ranged a b z term.None (term.Some d r) f = (tt, within d (met f 7 .ranged))
-terms-ranged a b z (term.Some c s) term.None f = (within c (met f 5 .ranged), tt)
-terms-ranged a b z (term.Some c s) (term.Some d r) f = (within c (met f 5 .ranged), within d (met f 7 .ranged))
+terms-ranged a b z term.None (term.Some d r) f = (tt, field-within 999 d (met f 7 .ranged))
+terms-ranged a b z (term.Some c s) term.None f = (field-within 999 c (met f 5 .ranged), tt)
+terms-ranged a b z (term.Some c s) (term.Some d r) f = (field-within 999 c (met f 5 .ranged), field-within 999 d (met f 7 .ranged))
 
 form-ranged : (φ : Form) → Fit kind.Sentence (rowOf kind.Sentence (record { form = φ })) → Ranged φ
 form-ranged form.True f = tt
@@ -74,12 +59,8 @@ form-ranged (form.Until a b z t u) f = terms-ranged a b z t u f
 
 pub ranged : {c : Case} → Sound c → (i : ℕ) → Ranged (getD (itemsOf c .sentences) i (noItem kind.Sentence) .form)
 ranged {c} s i =
-    let l = itemsOf c .sentences in
-    elim (decLt i (c .count .sentences)) [
-      | yes h ↦ form-ranged (getD l i (noItem kind.Sentence) .form) (s .fit kind.Sentence i h)
-      | no h ↦
-          subst (λ (y : Sentence). Ranged (y .form)) (sym (List·getD-eq-default l (noItem kind.Sentence) {n = i} (omega (arith, counted c s kind.Sentence)))) tt
-    ]
+    by-end (λ (y : Sentence). Ranged (y .form)) (itemsOf c .sentences) (noItem kind.Sentence) i
+    (λ h. form-ranged _ (s .fit kind.Sentence i (omega (arith, counted c s kind.Sentence)))) tt
 
 -- ---- light labels
 

@@ -24,21 +24,21 @@ use Rattle.verdict.specs.Best as best
 use Rattle.verdict.specs.Rounds.{firstOf, loopOf, isLast, roundsOf, agree}
 use Rattle.verdict.specs.Best.{Best, Front, step, chain, wholeSum, onFirst, onLast, frontBy, front}
 use Rattle.maxplus.specs.Numbers.{none, stopOf, goOf, stepBy, aroundBy}
-use Rattle.maxplus.specs.Bounds.{Light, Few, small, Tame}
+use Rattle.maxplus.specs.Bounds.{Light, FewRounds, small, Tame}
 use Rattle.maxplus.specs.Stretches.{stretch-room, stretch-few}
 use Rattle.maxplus.specs.Shows.{Shows, stretchFar, placeFar, shows-none, shows-step, shows-small, shows-bound, shows-wider, shows-around, StepsAre, steps-tame}
 use Rattle.marks.specs.Wrong.{untilsOf}
 
 -- u and v show the best sums of a place
-pub record Both (B : ℕ) (y : Front) (u v : ℤ) : Type 0 where
+pub record ShowBoth (B : ℕ) (y : Front) (u v : ℤ) : Type 0 where
   pub first : Shows B u (y .first)
   pub last : Shows B v (y .last)
 
-both-wider : {A : ℕ} (B : ℕ) {y : Front} {u v : ℤ} → A ≤ B → Both A y u v → Both B y u v
+both-wider : {A : ℕ} (B : ℕ) {y : Front} {u v : ℤ} → A ≤ B → ShowBoth A y u v → ShowBoth B y u v
 both-wider B h k = record { first = shows-wider (k .first) h; last = shows-wider (k .last) h }
 
 -- and so do numbers that stand for u and v
-pub both-read : {B : ℕ} {y : Front} {a b u v : ℤ} → a ≡ u → b ≡ v → Both B y u v → Both B y a b
+pub both-read : {B : ℕ} {y : Front} {a b u v : ℤ} → a ≡ u → b ≡ v → ShowBoth B y u v → ShowBoth B y a b
 both-read p q k = rw (p, q) k
 
 -- the best sums after place p, where y has those of the next place: at the end of a stretch by its rounds
@@ -50,10 +50,10 @@ afterBy l ps p y =
     cond (isLast ps p) (record { first = onFirst r a s (y .first); last = onLast r a s (y .first) }) y
 
 -- f of both
-abbrev each : (Best → Best) → Front → Front
-each f y = record { first = f (y .first); last = f (y .last) }
+abbrev eachSum : (Best → Best) → Front → Front
+eachSum f y = record { first = f (y .first); last = f (y .last) }
 
-each-cond : (t : Bool) (f : Best → Best) (y z : Front) → each f (cond t y z) ≡ cond t (each f y) (each f z)
+each-cond : (t : Bool) (f : Best → Best) (y z : Front) → eachSum f (cond t y z) ≡ cond t (eachSum f y) (eachSum f z)
 each-cond true f y z = refl
 each-cond false f y z = refl
 
@@ -66,11 +66,11 @@ farAt x i = (length (x .places) - i) * placeFar
 
 -- u and v show the best sums of place i
 abbrev pub Shown : Items → (ℕ → Label) → ℕ → ℤ → ℤ → Type 0
-Shown x l i = Both (farAt x i) (sumsAt x l i)
+Shown x l i = ShowBoth (farAt x i) (sumsAt x l i)
 
 -- and those after the place before i
 abbrev pub After : Items → (ℕ → Label) → ℕ → ℤ → ℤ → Type 0
-After x l i = Both (stretchFar + farAt x i) (afterBy l (x .places) (i - 1) (sumsAt x l i))
+After x l i = ShowBoth (stretchFar + farAt x i) (afterBy l (x .places) (i - 1) (sumsAt x l i))
 
 -- what a turn for the place before i stands on
 pub record Turn (x : Items) (l : ℕ → Label) (s g : ℕ → ℤ) (i : ℕ) : Type 0 where
@@ -106,7 +106,7 @@ module _ {x : Items} {l : ℕ → Label} {s g : ℕ → ℤ} {i : ℕ} (t : Turn
         let e : i ≡ suc p = omega arith in
         ap (leb (q + stretch m)) e ∙ ap₂ (λ (a : ℕ) (b : LoopMark). leb (a + stretch b) (suc p)) eq em
 
-    pub turn-fits : (q + stretch m ≤ roomOf kind.Place) × ((Tame s g) × ((Few (roundsOf m)) × (size u ≤ small)))
+    pub turn-fits : (q + stretch m ≤ roomOf kind.Place) × ((Tame s g) × ((FewRounds (roundsOf m)) × (size u ≤ small)))
     turn-fits = rw (eq, em) (stretch-room (t .facts) p (omega arith), (tame, (stretch-few (t .facts) p, shows-small (k .first) (omega (arith, few)))))
 
     pub turn-out : q + stretch m ≤ i → After x l i (aroundBy s g q m u .first) (aroundBy s g q m u .last)
@@ -134,7 +134,7 @@ module _ {x : Items} {l : ℕ → Label} {s g : ℕ → ℤ} {i : ℕ} (t : Turn
         let h : p < roomOf kind.Place = omega (arith, few) in
         let w = t .light .each p in
         rw (t .are .stops p h, t .are .goes p h)
-        (subst (λ (z : Front). Both (farAt x p) z (stepBy (stopOf (l p)) (goOf (l p)) u) (stepBy (stopOf (l p)) (goOf (l p)) v))
+        (subst (λ (z : Front). ShowBoth (farAt x p) z (stepBy (stopOf (l p)) (goOf (l p)) u) (stepBy (stopOf (l p)) (goOf (l p)) v))
         (each-cond (isLast ps p) (step (l p)) _ (sumsAt x l i)
         ∙ down-more (front l ps) (frontBy l ps) (λ i n. refl) i (length ps) (sumsAt x l i) (t .some) (t .held) refl)
         (both-wider (farAt x p) (omega arith)

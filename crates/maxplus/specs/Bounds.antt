@@ -20,10 +20,10 @@ pub record Light (l : ℕ → Label) : Type 0 where
   pub each : (p : ℕ) → size (l p .weight) ≤ heaviest
 
 -- no more rounds than a plan can have
-abbrev pub Few : Rounds → Type 0
-Few rounds.None = Unit {0}
-Few (rounds.UpTo k) = k ≤ mostRounds
-Few rounds.Ever = Unit {0}
+abbrev pub FewRounds : Rounds → Type 0
+FewRounds rounds.None = Unit {0}
+FewRounds (rounds.UpTo k) = k ≤ mostRounds
+FewRounds rounds.Ever = Unit {0}
 
 -- the greatest size of a number that shows a best sum
 abbrev pub small : ℕ

@@ -24,7 +24,7 @@ use Rattle.verdict.specs.Best.{Best, isReached, plus, greater, onward, step, ch
 use Rattle.rounds.specs.Last.{mostRounds}
 use Rattle.maxplus.specs.declared.Round.{Round}
 use Rattle.maxplus.specs.Numbers.{none, any, least, stopOf, goOf, larger, stepBy, withinBy, sumBy, roundBy, powerBy, limitBy, aroundBy}
-use Rattle.maxplus.specs.Bounds.{heaviest, Light, Few, small, Tame}
+use Rattle.maxplus.specs.Bounds.{heaviest, Light, FewRounds, small, Tame}
 
 -- ---- how far
 
@@ -157,21 +157,21 @@ shows-bound {B} {x} {b} z h s f = go b (s .near) (leZ z x) refl
 -- ---- a round
 
 -- not sums without end
-abbrev Ended : Best → Type 0
-Ended best.None = Unit {0}
-Ended (best.Sum z) = Unit {0}
-Ended best.Any = ⊥
+abbrev Finite : Best → Type 0
+Finite best.None = Unit {0}
+Finite (best.Sum z) = Unit {0}
+Finite best.Any = ⊥
 
-ended-plus : (w : ℤ) (b : Best) → Ended b → Ended (plus w b)
+ended-plus : (w : ℤ) (b : Best) → Finite b → Finite (plus w b)
 ended-plus w best.None h = tt
 ended-plus w (best.Sum z) h = tt
 ended-plus w best.Any h = h
 
-ended-whole : (l : ℕ → Label) (p n : ℕ) → Ended (wholeSum l p n)
+ended-whole : (l : ℕ → Label) (p n : ℕ) → Finite (wholeSum l p n)
 unfolding wholeSum
 ended-whole l p zero = tt
 ended-whole l p (suc n) =
-    cond-by Ended (l p .held) (λ e. ended-plus (l p .weight) (wholeSum l (suc p) n) (ended-whole l (suc p) n)) (λ e. tt)
+    cond-by Finite (l p .held) (λ e. ended-plus (l p .weight) (wholeSum l (suc p) n) (ended-whole l (suc p) n)) (λ e. tt)
 
 -- s and g are the steps of the labels l at every place that there is room for
 pub record StepsAre (l : ℕ → Label) (s g : ℕ → ℤ) : Type 0 where
@@ -182,7 +182,7 @@ pub record StepsAre (l : ℕ → Label) (s g : ℕ → ℤ) : Type 0 where
 record ShowsRound (r : Round) (a s : Best) : Type 0 where
   within : Shows roundFar (r .within) a
   sum : Near roundFar (r .sum) s
-  ended : Ended s
+  ended : Finite s
 
 module _ {l : ℕ → Label} {s g : ℕ → ℤ} (light : Light l) (are : StepsAre l s g) where
   pub steps-tame : Tame s g
@@ -275,7 +275,7 @@ shows-limit r best.Any (best.Sum z) t =
 shows-limit r a best.Any t = absurd (t .ended)
 
 pub shows-around : {l : ℕ → Label} {s g : ℕ → ℤ} {B : ℕ} {v : ℤ} {b : Best} → Light l → StepsAre l s g
-    → (q : ℕ) (m : LoopMark) → q + stretch m ≤ roomOf kind.Place → Few (roundsOf m) → Shows B v b → stretchFar + B ≤ farthest →
+    → (q : ℕ) (m : LoopMark) → q + stretch m ≤ roomOf kind.Place → FewRounds (roundsOf m) → Shows B v b → stretchFar + B ≤ farthest →
     let a = chain l q (stretch m) best.None in
     let w = wholeSum l q (stretch m) in
     (Shows (stretchFar + B) (aroundBy s g q m v .first) (onFirst (roundsOf m) a w b))

@@ -13,7 +13,7 @@ use Rattle.meaning.specs.Run.{stretch}
 use Rattle.meaning_laws.specs.Facts.{Facts}
 use Rattle.verdict.specs.Rounds.{firstOf, loopOf, roundsOf}
 use Rattle.verdict_laws.specs.Steps.{first-le}
-use Rattle.maxplus.specs.Bounds.{Few}
+use Rattle.maxplus.specs.Bounds.{FewRounds}
 
 module _ {x : Items} (f : Facts x) where
   -- its places
@@ -23,10 +23,10 @@ module _ {x : Items} (f : Facts x) where
   pub stretch-room : (p : ℕ) → p < length ps → firstOf ps p + stretch (loopOf ps p) ≤ roomOf kind.Place
   stretch-room p h = f .room (firstOf ps p) (omega (arith, first-le ps p))
 
-  pub stretch-few : (p : ℕ) → Few (roundsOf (loopOf ps p))
+  pub stretch-few : (p : ℕ) → FewRounds (roundsOf (loopOf ps p))
   stretch-few p = go (loopOf ps p) refl
     where
-      go : (m : LoopMark) → loopOf ps p ≡ m → Few (roundsOf m)
+      go : (m : LoopMark) → loopOf ps p ≡ m → FewRounds (roundsOf m)
       go mark.None e = omega arith
       go (mark.Counted l n b) e = omega (arith, f .rounds (firstOf ps p) l n b e)
       go (mark.Endless l b) e = tt

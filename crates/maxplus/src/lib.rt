@@ -9,7 +9,7 @@ ghost use Rattle.items.specs.Lists.{roomOf};
 ghost use Rattle.meaning.specs.Run.{stretch};
 ghost use Rattle.verdict.specs.Rounds.{roundsOf};
 ghost use Rattle.maxplus.specs.Numbers.{entryAt, choiceBy, larger, stepBy, roundBy, powerBy, limitBy, aroundBy};
-ghost use Rattle.maxplus.specs.Bounds.{Few, Tame, Slight, small};
+ghost use Rattle.maxplus.specs.Bounds.{FewRounds, Tame, Slight, small};
 use collector::Case;
 use items::LoopMark;
 
@@ -129,7 +129,7 @@ pub fn around<'a>(
     mark: LoopMark,
     v: i64,
 ) -> Ends
-    requires { ⌜ (q + stretch mark ≤ roomOf kind.Place) × ((Tame (entryAt (stops .now)) (entryAt (goes .now))) × ((Few (roundsOf mark)) × (size v ≤ small))) ⌝ }
+    requires { ⌜ (q + stretch mark ≤ roomOf kind.Place) × ((Tame (entryAt (stops .now)) (entryAt (goes .now))) × ((FewRounds (roundsOf mark)) × (size v ≤ small))) ⌝ }
     ensures { λ x. ⌜ x ≡ aroundBy (entryAt (stops .entry .now)) (entryAt (goes .entry .now)) q mark v ⌝ }
 {
     match mark {

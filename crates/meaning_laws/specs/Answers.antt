@@ -33,14 +33,14 @@ rank (RootUnmarked r) = 5
 rank Accepted = 6
 
 -- the answer of a rank with these numbers
-abbrev answerOf : ℕ → ℕ → ℕ → Judgement
-answerOf k m n =
+abbrev rankedAnswer : ℕ → ℕ → ℕ → Judgement
+rankedAnswer k m n =
     getD
     (Unfinished m ∷ WrongStart ∷ Unconnected (record { 0 = m }) n ∷ GuardFails (record { 0 = m }) n ∷ WrongMark (record { 0 = m }) n ∷ RootUnmarked n ∷ [])
     k
     Accepted
 
-numbered : (a : Judgement) → answerOf (rank a) (numbersOf a .second) (numbersOf a .third) ≡ a
+numbered : (a : Judgement) → rankedAnswer (rank a) (numbersOf a .second) (numbersOf a .third) ≡ a
 numbered (Unfinished n) = refl
 numbered WrongStart = refl
 numbered (Unconnected p t) = refl
@@ -79,29 +79,29 @@ module _ (x : Items) (θ : Valuation) where
       ⊥
 
   -- the first k tests are passed
-  abbrev Passed : ℕ → Type 0
-  Passed zero = Unit {0}
-  Passed (suc zero) = Finished x
-  Passed (suc (suc k)) = Passed (suc k) × Good k
+  abbrev PassedTests : ℕ → Type 0
+  PassedTests zero = Unit {0}
+  PassedTests (suc zero) = Finished x
+  PassedTests (suc (suc k)) = PassedTests (suc k) × Good k
 
-  one-less : (k : ℕ) → Passed (suc k) → Passed k
+  one-less : (k : ℕ) → PassedTests (suc k) → PassedTests k
   one-less zero s = tt
   one-less (suc k) s = s .0
 
-  fewer : (j k : ℕ) → j ≤ k → Passed k → Passed j
-  fewer j zero h s = let e : 0 ≡ j = omega arith in subst Passed e s
+  fewer : (j k : ℕ) → j ≤ k → PassedTests k → PassedTests j
+  fewer j zero h s = let e : 0 ≡ j = omega arith in subst PassedTests e s
   fewer j (suc k) h s =
-      ⊎-elim (λ e. subst Passed (sym e) s) (λ l. fewer j k (le-of-suc-le-suc l) (one-less k s)) (eq-or-lt-of-le h)
+      ⊎-elim (λ e. subst PassedTests (sym e) s) (λ l. fewer j k (le-of-suc-le-suc l) (one-less k s)) (eq-or-lt-of-le h)
 
   -- ---- one answer
 
   -- what an answer says: the first tests are passed and no more, and no other answer of its rank says so
-  record Says (a : Judgement) : Type 0 where
-    passed : Passed (rank a)
-    stops : Passed (suc (rank a)) → ⊥
-    only : (m n : ℕ) → Judged x θ (answerOf (rank a) m n) → answerOf (rank a) m n ≡ a
+  record SaysFirst (a : Judgement) : Type 0 where
+    passed : PassedTests (rank a)
+    stops : PassedTests (suc (rank a)) → ⊥
+    only : (m n : ℕ) → Judged x θ (rankedAnswer (rank a) m n) → rankedAnswer (rank a) m n ≡ a
 
-  says : (a : Judgement) → Judged x θ a → Says a
+  says : (a : Judgement) → Judged x θ a → SaysFirst a
   says (Unfinished n) j = record { passed = tt; stops = j .0; only = λ m k i. ap Unfinished (i .1 ∙ sym (j .1)) }
   says WrongStart j = record { passed = j .0; stops = λ s. j .1 (s .1); only = λ m k i. refl }
   says (Unconnected p t) j =
@@ -132,7 +132,7 @@ module _ (x : Items) (θ : Valuation) where
       record { passed = j .0; stops = λ s. true≢false (sym (s .1) ∙ j .1); only = λ m k i. ap RootUnmarked (i .2 ∙ sym (j .2)) }
   says Accepted j = record { passed = j; stops = λ s. s .1; only = λ m k i. refl }
 
-  no-later : {a b : Judgement} → Says a → Says b → rank a < rank b → ⊥
+  no-later : {a b : Judgement} → SaysFirst a → SaysFirst b → rank a < rank b → ⊥
   no-later {a} {b} s t h = s .stops (fewer (suc (rank a)) (rank b) h (t .passed))
 
   pub one-answer : (a b : Judgement) → Judged x θ a → Judged x θ b → a ≡ b
@@ -141,7 +141,7 @@ module _ (x : Items) (θ : Valuation) where
       let t = says b j in
       let e : rank b ≡ rank a = omega (arith, no-later s t, no-later t s) in
       let n = numbersOf b in
-      let f : b ≡ answerOf (rank a) (n .second) (n .third) = sym (numbered b) ∙ ap (λ k. answerOf k (n .second) (n .third)) e in
+      let f : b ≡ rankedAnswer (rank a) (n .second) (n .third) = sym (numbered b) ∙ ap (λ k. rankedAnswer k (n .second) (n .third)) e in
       sym (f ∙ s .only (n .second) (n .third) (subst (Judged x θ) f j))
 
   -- the result is 0 exactly where the case is accepted: every other answer excludes it

@@ -13,20 +13,20 @@ use Rattle.counters.specs.Sum.{Valuation, sum}
 use Rattle.items.specs.declared.Place.{Place}
 use Rattle.meaning.specs.Run.{Moment, here, spot, wayTaken}
 use Rattle.verdict.specs.Labels.{Label}
-use Rattle.meaning_laws.specs.Counting.{total, total-same, Gets, gets-up, gets-down, gets-later}
+use Rattle.meaning_laws.specs.Counting.{totalWeight, total-same, Gets, gets-up, gets-down, gets-later}
 use Rattle.meaning_laws.specs.Repeats.{Repeats}
 
 -- ---- more rounds
 
 -- n is k and some rounds more, of which each takes r moments: s in all
-pub data Later (r : ℕ) : ℕ → ℕ → ℕ → Type 0 where
-  same : {k : ℕ} → Later r k k 0
-  more : {k n s : ℕ} → Later r k n s → Later r k (suc n) (s + r)
+pub data MoreRounds (r : ℕ) : ℕ → ℕ → ℕ → Type 0 where
+  same : {k : ℕ} → MoreRounds r k k 0
+  more : {k n s : ℕ} → MoreRounds r k n s → MoreRounds r k (suc n) (s + r)
 
-pub is-later : (r k n : ℕ) → k ≤ n → (s : ℕ) × Later r k n s
-is-later r k zero h = let e : k ≡ 0 = omega arith in (0, subst (λ i. Later r i 0 0) (sym e) same)
+pub is-later : (r k n : ℕ) → k ≤ n → (s : ℕ) × MoreRounds r k n s
+is-later r k zero h = let e : k ≡ 0 = omega arith in (0, subst (λ i. MoreRounds r i 0 0) (sym e) same)
 is-later r k (suc n) h = ⊎-elim
-    (λ e. (0, subst (λ i. Later r i (suc n) 0) (sym e) same))
+    (λ e. (0, subst (λ i. MoreRounds r i (suc n) 0) (sym e) same))
     (λ l. let s = is-later r k n (omega arith) in (s .0 + r, more (s .1)))
     (eq-or-lt-of-le h)
 
@@ -35,16 +35,16 @@ abbrev pub OneWay : (ℕ → Type 0) → Type 0
 OneWay P = ((k : ℕ) → P k → P (suc k)) ⊎ ((k : ℕ) → P (suc k) → P k)
 
 module _ (P : ℕ → Type 0) {r : ℕ} where
-  up-by : ((k : ℕ) → P k → P (suc k)) → {k n s : ℕ} → Later r k n s → P k → P n
+  up-by : ((k : ℕ) → P k → P (suc k)) → {k n s : ℕ} → MoreRounds r k n s → P k → P n
   up-by f same h = h
   up-by f (more {n = n} l) h = f n (up-by f l h)
 
-  down-by : ((k : ℕ) → P (suc k) → P k) → {k n s : ℕ} → Later r k n s → P n → P k
+  down-by : ((k : ℕ) → P (suc k) → P k) → {k n s : ℕ} → MoreRounds r k n s → P n → P k
   down-by f same h = h
   down-by f (more {n = n} l) h = down-by f l (f n h)
 
   -- a flag that tells of a and of c tells of b between them
-  pub one-way : OneWay P → {a b c s t : ℕ} → Later r a b s → Later r b c t → (q : Bool) →
+  pub one-way : OneWay P → {a b c s t : ℕ} → MoreRounds r a b s → MoreRounds r b c t → (q : Bool) →
       (q ≡ true) ↔ P a → (q ≡ true) ↔ P c → (q ≡ true) ↔ P b
   one-way (inl f) l k q ha hc = (λ e. up-by f l (ha .0 e), λ p. hc .1 (up-by f k p))
   one-way (inr f) l k q ha hc = (λ e. down-by f k (hc .0 e), λ p. ha .1 (down-by f l p))
@@ -74,7 +74,7 @@ module _ (P : ℕ → List Place) (r : Repeats P) where
   pub next-left : (k : ℕ) → left (suc k) ≡ left k + r .round
   next-left k = omega arith
 
-  pub left-later : {k n s : ℕ} → Later (r .round) k n s → left n ≡ left k + s
+  pub left-later : {k n s : ℕ} → MoreRounds (r .round) k n s → left n ≡ left k + s
   left-later same = omega arith
   left-later (more {n = n} l) = omega (arith, left-later l, next-left n)
 
@@ -83,22 +83,22 @@ module _ (P : ℕ → List Place) (r : Repeats P) where
   first-round k = omega arith
 
   -- before the loop is left the runs with more rounds are the same
-  pub places-before : {k n s : ℕ} → Later (r .round) k n s → (m : ℕ) → m < left k → here (spot (P n) m) ≡ here (spot (P k) m)
+  pub places-before : {k n s : ℕ} → MoreRounds (r .round) k n s → (m : ℕ) → m < left k → here (spot (P n) m) ≡ here (spot (P k) m)
   places-before same m h = refl
   places-before (more {n = n} l) m h = r .same-place n m (omega (arith, left-later l, h)) ∙ places-before l m h
 
-  pub ways-before : {k n s : ℕ} → Later (r .round) k n s → (m : ℕ) → suc m < left k → wayTaken (P n) m ≡ wayTaken (P k) m
+  pub ways-before : {k n s : ℕ} → MoreRounds (r .round) k n s → (m : ℕ) → suc m < left k → wayTaken (P n) m ≡ wayTaken (P k) m
   ways-before same m h = refl
   ways-before (more {n = n} l) m h = r .same-way n m (omega (arith, left-later l, h)) ∙ ways-before l m h
 
   -- from its beginning on they are the same, so many rounds later
-  pub places-later : {k n s : ℕ} → Later (r .round) k n s → (m : ℕ) → r .start ≤ m → here (spot (P n) (m + s)) ≡ here (spot (P k) m)
+  pub places-later : {k n s : ℕ} → MoreRounds (r .round) k n s → (m : ℕ) → r .start ≤ m → here (spot (P n) (m + s)) ≡ here (spot (P k) m)
   places-later {k} same m h = let e : m + 0 ≡ m = omega arith in ap (λ i. here (spot (P k) i)) e
   places-later (more {n = n} {s = s} l) m h =
       let e : m + (s + r .round) ≡ m + s + r .round = omega arith in
       ap (λ i. here (spot (P (suc n)) i)) e ∙ r .later-place n (m + s) (omega arith) ∙ places-later l m h
 
-  pub ways-later : {k n s : ℕ} → Later (r .round) k n s → (m : ℕ) → r .start ≤ m → wayTaken (P n) (m + s) ≡ wayTaken (P k) m
+  pub ways-later : {k n s : ℕ} → MoreRounds (r .round) k n s → (m : ℕ) → r .start ≤ m → wayTaken (P n) (m + s) ≡ wayTaken (P k) m
   ways-later {k} same m h = let e : m + 0 ≡ m = omega arith in ap (wayTaken (P k)) e
   ways-later (more {n = n} {s = s} l) m h =
       let e : m + (s + r .round) ≡ m + s + r .round = omega arith in
@@ -112,7 +112,7 @@ module _ (P : ℕ → List Place) (r : Repeats P) where
     labels k m = ℓ (here (spot (P k) m))
 
     -- from the loop's beginning on: the same future
-    pub gets-same : {k n s : ℕ} → Later (r .round) k n s → (b : ℤ) (m : ℕ) → r .start ≤ m → Gets (labels k) b m ↔ Gets (labels n) b (m + s)
+    pub gets-same : {k n s : ℕ} → MoreRounds (r .round) k n s → (b : ℤ) (m : ℕ) → r .start ≤ m → Gets (labels k) b m ↔ Gets (labels n) b (m + s)
     gets-same {k} {n} {s} l b m h = gets-later (labels k) (labels n) s m (λ j g. ap ℓ (places-later l j (omega arith))) b
 
     -- before it: one round more never hurts, or never helps
@@ -120,7 +120,7 @@ module _ (P : ℕ → List Place) (r : Repeats P) where
     gets-one-way b m h = ⊎-elim
         (λ s. inr (λ k. gets-down (labels k) (labels (suc k)) (r .start) (r .round) (early k) (late k) (subst (λ z. z ≤ℤ pos 0) (sym (each k)) s) b m h))
         (λ s. inl (λ k. gets-up (labels k) (labels (suc k)) (r .start) (r .round) (early k) (late k) (subst (λ z. pos 0 ≤ℤ z) (sym (each k)) (le-in (omega arith))) b m h))
-        (le-or (total (labels 0) (r .start) (r .round)) (pos 0))
+        (le-or (totalWeight (labels 0) (r .start) (r .round)) (pos 0))
       where
         early : (k j : ℕ) → j < r .start + r .round → labels (suc k) j ≡ labels k j
         early k j g = ap ℓ (r .same-place k j (omega (arith, first-round k)))
@@ -128,6 +128,6 @@ module _ (P : ℕ → List Place) (r : Repeats P) where
         late : (k j : ℕ) → r .start ≤ j → labels (suc k) (j + r .round) ≡ labels k j
         late k j g = ap ℓ (r .later-place k j g)
 
-        each : (k : ℕ) → total (labels k) (r .start) (r .round) ≡ total (labels 0) (r .start) (r .round)
+        each : (k : ℕ) → totalWeight (labels k) (r .start) (r .round) ≡ totalWeight (labels 0) (r .start) (r .round)
         each zero = refl
         each (suc k) = total-same (labels k) (labels (suc k)) (r .start) (r .start) (r .round) (λ j g. early k (r .start + j) (omega arith)) ∙ each k

@@ -26,10 +26,10 @@ use Rattle.meaning_laws.specs.Facts.{Facts}
 -- ---- moments
 
 -- no stretch but the endless loop has more than 1,000,000 rounds
-abbrev Few : LoopMark → ℕ → Type 0
-Few m r = (isEndless m ≡ true) ⊎ (r < 1000000)
+abbrev RoundBelow : LoopMark → ℕ → Type 0
+RoundBelow m r = (isEndless m ≡ true) ⊎ (r < 1000000)
 
-few-again : (m : LoopMark) (r : ℕ) → ((l n b : ℕ) → m ≡ mark.Counted l n b → n ≤ 1000000) → goesAgain m r ≡ true → Few m (r + 1)
+few-again : (m : LoopMark) (r : ℕ) → ((l n b : ℕ) → m ≡ mark.Counted l n b → n ≤ 1000000) → goesAgain m r ≡ true → RoundBelow m (r + 1)
 few-again mark.None r f e = absurd (false≢true e)
 few-again (mark.Counted l n b) r f e = inr (omega (arith, ltb-true (r + 1) n e, f l n b refl))
 few-again (mark.Endless l b) r f e = inl refl
@@ -42,7 +42,7 @@ ended (mark.Endless l b) r e h = true≢false e
 -- where the run is at moment m: each place before took at most 1,000,000 moments
 record Paced (ps : List Place) (m : Moment) (x : Spot) : Type 0 where
   inside : x .step < stretch (markAt ps (x .first))
-  few : Few (markAt ps (x .first)) (x .round)
+  few : RoundBelow (markAt ps (x .first)) (x .round)
   soon : m ≤ 1000000 * x .first + (x .round * stretch (markAt ps (x .first)) + x .step)
 
 module _ (x : Items) (f : Facts x) where

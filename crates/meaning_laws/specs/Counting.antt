@@ -19,9 +19,9 @@ use Rattle.verdict.specs.Labels.{Label, worth, weightOf}
 use Rattle.meaning_laws.specs.Facts.{TermRefers}
 
 -- the weights of the n moments from i on
-unfoldable pub total : (ℕ → Label) → ℕ → ℕ → ℤ
-total l i zero = pos 0
-total l i (suc n) = l i .weight +ℤ total l (suc i) n
+unfoldable pub totalWeight : (ℕ → Label) → ℕ → ℕ → ℤ
+totalWeight l i zero = pos 0
+totalWeight l i (suc n) = l i .weight +ℤ totalWeight l (suc i) n
 
 -- the held sentence is true for n moments from i on
 abbrev Holds : (ℕ → Label) → ℕ → ℕ → Type 0
@@ -32,17 +32,17 @@ pub record Gets (l : ℕ → Label) (b : ℤ) (i : ℕ) : Type 0 where
   pub n : ℕ
   pub goal : l (i + n) .goal ≡ true
   pub held : (j : ℕ) → j < n → l (i + j) .held ≡ true
-  pub enough : b ≤ℤ total l i n
+  pub enough : b ≤ℤ totalWeight l i n
 
 -- ---- sums
 
-pub total-split : (l : ℕ → Label) (i m n : ℕ) → total l i (m + n) ≡ total l i m +ℤ total l (i + m) n
-unfolding total
+pub total-split : (l : ℕ → Label) (i m n : ℕ) → totalWeight l i (m + n) ≡ totalWeight l i m +ℤ totalWeight l (i + m) n
+unfolding totalWeight
 total-split l i zero n = rw (zero-add, add-zero, +ℤ-idl)
 total-split l i (suc m) n = simp (suc-add, add-suc, total-split l (suc i) m n, +ℤ-assoc)
 
-pub total-same : (l l′ : ℕ → Label) (i i′ n : ℕ) → ((j : ℕ) → j < n → l′ (i′ + j) ≡ l (i + j)) → total l′ i′ n ≡ total l i n
-unfolding total
+pub total-same : (l l′ : ℕ → Label) (i i′ n : ℕ) → ((j : ℕ) → j < n → l′ (i′ + j) ≡ l (i + j)) → totalWeight l′ i′ n ≡ totalWeight l i n
+unfolding totalWeight
 total-same l l′ i i′ zero same = refl
 total-same l l′ i i′ (suc n) same =
     ap₂ _+ℤ_ (ap (λ x. x .weight) (rw (add-zero i′, add-zero i) at (same 0 (omega arith))))
@@ -53,7 +53,7 @@ total-same l l′ i i′ (suc n) same =
 -- m moments are replaced by m′ others, and what follows is the same
 module _ (l l′ : ℕ → Label) {b : ℤ} (b′ : ℤ) (i i′ m m′ : ℕ) where
   unfoldable pub splice : (g : Gets l b i) → m ≤ g .n → Holds l′ i′ m′ → ((j : ℕ) → m + j ≤ g .n → l′ (i′ + (m′ + j)) ≡ l (i + (m + j)))
-      → ((x : ℤ) → b ≤ℤ (total l i m +ℤ x) → b′ ≤ℤ (total l′ i′ m′ +ℤ x)) → Gets l′ b′ i′
+      → ((x : ℤ) → b ≤ℤ (totalWeight l i m +ℤ x) → b′ ≤ℤ (totalWeight l′ i′ m′ +ℤ x)) → Gets l′ b′ i′
   splice g h before same enough =
       record {
         n = m′ + k;
@@ -62,8 +62,8 @@ module _ (l l′ : ℕ → Label) {b : ℤ} (b′ : ℤ) (i i′ m m′ : ℕ) w
           | yes u ↦ before j u
           | no u ↦ let e : m′ + (j - m′) ≡ j = omega arith in rw e at (ap (λ x. x .held) (same (j - m′) (omega arith)) ∙ g .held (m + (j - m′)) (omega arith))
         ];
-        enough = let e : total l′ (i′ + m′) k ≡ total l (i + m) k = total-same l l′ (i + m) (i′ + m′) k (λ j w. simp add-assoc (same j (omega arith))) in
-            rw (total-split l′ i′ m′ k, e) (enough (total l (i + m) k) (rw (← total-split l i m k, whole) (g .enough)));
+        enough = let e : totalWeight l′ (i′ + m′) k ≡ totalWeight l (i + m) k = total-same l l′ (i + m) (i′ + m′) k (λ j w. simp add-assoc (same j (omega arith))) in
+            rw (total-split l′ i′ m′ k, e) (enough (totalWeight l (i + m) k) (rw (← total-split l i m k, whole) (g .enough)));
       }
     where
       k : ℕ
@@ -74,7 +74,7 @@ module _ (l l′ : ℕ → Label) {b : ℤ} (b′ : ℤ) (i i′ m m′ : ℕ) w
 
 -- the moments up to the goal are the same
 moved : (l l′ : ℕ → Label) {b : ℤ} (i i′ : ℕ) (g : Gets l b i) → ((j : ℕ) → j ≤ g .n → l′ (i′ + j) ≡ l (i + j)) → Gets l′ b i′
-unfolding total
+unfolding totalWeight
 moved l l′ {b} i i′ g same = splice l l′ b i i′ 0 0 g (omega arith) (λ j w. absurd (omega arith)) (λ j w. rw (zero-add j) (same j (omega arith))) (λ x w. w)
 
 -- the same future
@@ -86,7 +86,7 @@ gets-later l l′ d i same b = (λ g. moved l l′ i (i + d) g (λ j w. at j), �
 
 -- l′ is l with the moments from p on, r of them, twice
 module _ (l l′ : ℕ → Label) (p r : ℕ) (once : (j : ℕ) → j < p + r → l′ j ≡ l j) (twice : (j : ℕ) → p ≤ j → l′ (j + r) ≡ l j) where
-  doubled : (i : ℕ) → i ≤ p → total l′ i (p - i + r) ≡ total l i (p - i) +ℤ total l p r
+  doubled : (i : ℕ) → i ≤ p → totalWeight l′ i (p - i + r) ≡ totalWeight l i (p - i) +ℤ totalWeight l p r
   doubled i h =
       let e : i + (p - i) ≡ p = omega arith in
       total-same l l′ i i (p - i + r) (λ j w. once (i + j) (omega arith)) ∙ rw e at (total-split l i (p - i) r)
@@ -97,20 +97,20 @@ module _ (l l′ : ℕ → Label) (p r : ℕ) (once : (j : ℕ) → j < p + r �
       let f : i + (p - i + j) ≡ p + j = omega arith in
       rw (e, f) (twice (p + j) (omega arith))
 
-  pub gets-up : pos 0 ≤ℤ total l p r → (b : ℤ) (i : ℕ) → i ≤ p → Gets l b i → Gets l′ b i
+  pub gets-up : pos 0 ≤ℤ totalWeight l p r → (b : ℤ) (i : ℕ) → i ≤ p → Gets l b i → Gets l′ b i
   gets-up s b i h g = elim (decLt (i + g .n) (p + r)) [
     | yes u ↦ moved l l′ i i g (λ j w. once (i + j) (omega arith))
     | no u ↦ splice l l′ b i i (p - i) (p - i + r) g (omega arith) (λ j w. ap (λ x. x .held) (once (i + j) (omega arith)) ∙ g .held j (omega arith))
         (λ j w. from-there i j h)
-        (λ x w. rw (doubled i h) (le-in (omega (arith, le-out w, le-out s, add-rel (total l i (p - i)) x, add-rel (total l i (p - i)) (total l p r), add-rel (total l i (p - i) +ℤ total l p r) x))))
+        (λ x w. rw (doubled i h) (le-in (omega (arith, le-out w, le-out s, add-rel (totalWeight l i (p - i)) x, add-rel (totalWeight l i (p - i)) (totalWeight l p r), add-rel (totalWeight l i (p - i) +ℤ totalWeight l p r) x))))
   ]
 
-  pub gets-down : total l p r ≤ℤ pos 0 → (b : ℤ) (i : ℕ) → i ≤ p → Gets l′ b i → Gets l b i
+  pub gets-down : totalWeight l p r ≤ℤ pos 0 → (b : ℤ) (i : ℕ) → i ≤ p → Gets l′ b i → Gets l b i
   gets-down s b i h g = elim (decLt (i + g .n) (p + r)) [
     | yes u ↦ moved l′ l i i g (λ j w. sym (once (i + j) (omega arith)))
     | no u ↦ splice l′ l b i i (p - i + r) (p - i) g (omega arith) (λ j w. ap (λ x. x .held) (sym (once (i + j) (omega arith))) ∙ g .held j (omega arith))
         (λ j w. sym (from-there i j h))
-        (λ x w. le-in (omega (arith, le-out (rw (doubled i h) at w), le-out s, add-rel (total l i (p - i)) x, add-rel (total l i (p - i)) (total l p r), add-rel (total l i (p - i) +ℤ total l p r) x)))
+        (λ x w. le-in (omega (arith, le-out (rw (doubled i h) at w), le-out s, add-rel (totalWeight l i (p - i)) x, add-rel (totalWeight l i (p - i)) (totalWeight l p r), add-rel (totalWeight l i (p - i) +ℤ totalWeight l p r) x)))
   ]
 
 -- ---- until is decided
@@ -135,7 +135,7 @@ module _ (l : ℕ → Label) (b : ℤ) (i n : ℕ) (holds : Holds l i n) (later 
     | yes e ↦ ⊎-elim
         (λ w. inl (inl (record { n = n; goal = e; held = holds; enough = w })))
         (λ w. seek-held (λ g q. omega (arith, le-out (rw (sym q) at (g .enough)))))
-        (le-or b (total l i n))
+        (le-or b (totalWeight l i n))
     | no e ↦ seek-held (λ g q. e (rw q (g .goal)))
   ]
 
@@ -147,8 +147,8 @@ seek l b i (suc n) = ⊎-elim inl (λ h. seek-goal l b i n (h .0) (h .1)) (seek 
 abbrev plain : Label → Label
 plain x = record { goal = x .goal; held = x .held; weight = pos 0 }
 
-total-plain : (l : ℕ → Label) (i n : ℕ) → total (λ j. plain (l j)) i n ≡ pos 0
-unfolding total
+total-plain : (l : ℕ → Label) (i n : ℕ) → totalWeight (λ j. plain (l j)) i n ≡ pos 0
+unfolding totalWeight
 total-plain l i zero = refl
 total-plain l i (suc n) = rw (total-plain l (suc i) n)
 
@@ -158,31 +158,31 @@ module _ (l : ℕ → Label) (p r : ℕ) (long : 1 ≤ r) (again : (j : ℕ) →
   shift j = let e : p + (r + j) ≡ p + (0 + j) + r = omega arith in rw e (again (p + (0 + j)) (omega arith))
 
   -- where a round adds nothing: if there is a goal at all, there is one in the first round
-  in-first : (b : ℤ) → total l p r ≤ℤ pos 0 → ((g : Gets l b p) → r ≤ g .n) → Gets l b p → ⊥
-  unfolding splice total
+  in-first : (b : ℤ) → totalWeight l p r ≤ℤ pos 0 → ((g : Gets l b p) → r ≤ g .n) → Gets l b p → ⊥
+  unfolding splice totalWeight
   in-first b s later g = before (suc (g .n)) g (omega arith)
     where
       before : (f : ℕ) (g : Gets l b p) → g .n < f → ⊥
       before zero g h = omega arith
       before (suc f) g h = before f
           (splice l l b p p r 0 g (later g) (λ j w. absurd (omega arith)) (λ j w. sym (shift j))
-          (λ x w. le-in (omega (arith, le-out w, le-out s, add-rel (total l p r) x, add-rel (pos 0) x))))
+          (λ x w. le-in (omega (arith, le-out w, le-out s, add-rel (totalWeight l p r) x, add-rel (pos 0) x))))
           (omega (arith, later g))
 
   -- where a round adds something and there is a goal, any bound is reached
-  grow : pos 1 ≤ℤ total l p r → Holds l p r → Gets (λ j. plain (l j)) (pos 0) p → (b : ℤ) → Gets l b p
-  unfolding total
+  grow : pos 1 ≤ℤ totalWeight l p r → Holds l p r → Gets (λ j. plain (l j)) (pos 0) p → (b : ℤ) → Gets l b p
+  unfolding totalWeight
   grow s holds g b = up-to (up b + down c) b (le-in (omega (arith, add-rel (pos (up b + down c)) c)))
     where
       c : ℤ
-      c = total l p (g .n)
+      c = totalWeight l p (g .n)
 
       up-to : (e : ℕ) (b : ℤ) → b ≤ℤ (pos e +ℤ c) → Gets l b p
       up-to zero b h = record { n = g .n; goal = g .goal; held = g .held; enough = le-in (omega (arith, le-out h, add-rel (pos 0) c)) }
       up-to (suc e) b h = splice l l b p p 0 r
           (up-to e (b +ℤ negsuc 0) (le-in (omega (arith, le-out h, add-rel b (negsuc 0), add-rel (pos e) c, add-rel (pos (suc e)) c))))
           (omega arith) holds (λ j w. shift j)
-          (λ x w. le-in (omega (arith, le-out w, le-out s, add-rel (pos 0) x, add-rel b (negsuc 0), add-rel (total l p r) x)))
+          (λ x w. le-in (omega (arith, le-out w, le-out s, add-rel (pos 0) x, add-rel b (negsuc 0), add-rel (totalWeight l p r) x)))
 
 module _ (l : ℕ → Label) (p r : ℕ) (long : 1 ≤ r) (again : (j : ℕ) → p ≤ j → l (j + r) ≡ l j) (b : ℤ) where
   plain-decided : Decided (Gets (λ j. plain (l j)) (pos 0) p)
@@ -191,9 +191,9 @@ module _ (l : ℕ → Label) (p r : ℕ) (long : 1 ≤ r) (again : (j : ℕ) →
       (seek (λ j. plain (l j)) (pos 0) p r)
 
   round-decided : Decided (Gets l b p)
-  round-decided = ⊎-elim (λ d. d) (λ h. ⊎-elim (λ s. inr (in-first l p r long again b s (h .1))) (λ s. by-goal s (h .0)) (le-or (total l p r) (pos 0))) (seek l b p r)
+  round-decided = ⊎-elim (λ d. d) (λ h. ⊎-elim (λ s. inr (in-first l p r long again b s (h .1))) (λ s. by-goal s (h .0)) (le-or (totalWeight l p r) (pos 0))) (seek l b p r)
     where
-      by-goal : up (pos 0) + down (total l p r) < up (total l p r) + down (pos 0) → Holds l p r → Decided (Gets l b p)
+      by-goal : up (pos 0) + down (totalWeight l p r) < up (totalWeight l p r) + down (pos 0) → Holds l p r → Decided (Gets l b p)
       by-goal s holds = ⊎-elim
           (λ g. inl (grow l p r long again (le-in (omega arith)) holds g b))
           (λ none. inr (λ g. none (record { n = g .n; goal = g .goal; held = g .held; enough = rw (total-plain l p (g .n)) (record { le = tt }) })))
@@ -201,9 +201,9 @@ module _ (l : ℕ → Label) (p r : ℕ) (long : 1 ≤ r) (again : (j : ℕ) →
 
 -- labels that come again and again from k on
 pub gets-decided : (l : ℕ → Label) (k r : ℕ) → 1 ≤ r → ((j : ℕ) → k ≤ j → l (j + r) ≡ l j) → (b : ℤ) (i : ℕ) → Gets l b i ⊎ (Gets l b i → ⊥)
-unfolding total
+unfolding totalWeight
 gets-decided l k r long again b i =
-    let t = total l i k in
+    let t = totalWeight l i k in
     ⊎-elim (λ d. d)
     (λ h. ⊎-elim
     (λ g. inl (splice l l b (i + k) i 0 k g (omega arith) (h .0) (λ j w. simp (zero-add, add-assoc))
@@ -219,15 +219,15 @@ gets-decided l k r long again b i =
 module _ (Held Goal : Moment → Type 0) (ts : List Counted) (l : ℕ → Label)
     (helds : (m : Moment) → (l m .held ≡ true) ↔ Held m) (goals : (m : Moment) → (l m .goal ≡ true) ↔ Goal m)
     (adds : (m : Moment) (z : ℤ) → Adds ts m z ↔ (z ≡ l m .weight)) where
-  sum-total : (i : Moment) (n : ℕ) (z : ℤ) → Sum ts i n z → z ≡ total l i n
-  unfolding Sum total
+  sum-total : (i : Moment) (n : ℕ) (z : ℤ) → Sum ts i n z → z ≡ totalWeight l i n
+  unfolding Sum totalWeight
   sum-total i zero z s = s
   sum-total i (suc n) z s = s .4 ∙ ap₂ _+ℤ_ (adds i (s .0) .0 (s .2)) (sum-total (suc i) n (s .1) (s .3))
 
-  total-sum : (i : Moment) (n : ℕ) → Sum ts i n (total l i n)
-  unfolding Sum total
+  total-sum : (i : Moment) (n : ℕ) → Sum ts i n (totalWeight l i n)
+  unfolding Sum totalWeight
   total-sum i zero = refl
-  total-sum i (suc n) = (l i .weight, total l (suc i) n, adds i (l i .weight) .1 refl, total-sum (suc i) n, refl)
+  total-sum i (suc n) = (l i .weight, totalWeight l (suc i) n, adds i (l i .weight) .1 refl, total-sum (suc i) n, refl)
 
   pub until-gets : (b : ℤ) (i : Moment) → Until Held Goal b ts i ↔ Gets l b i
   until-gets b i = (
@@ -241,7 +241,7 @@ module _ (Held Goal : Moment → Type 0) (ts : List Counted) (l : ℕ → Label)
       n = g .n;
       goal = goals (i + g .n) .0 (g .goal);
       held = λ j w. helds (i + j) .0 (g .held j w);
-      total = total l i (g .n);
+      total = totalWeight l i (g .n);
       summed = total-sum i (g .n);
       enough = g .enough;
     },

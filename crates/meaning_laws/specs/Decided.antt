@@ -33,13 +33,13 @@ endless (mark.Counted l n b) e = absurd (false≢true e)
 endless (mark.Endless l b) e = (refl, λ r. refl, λ q. let z : _≡_ {A = ℕ} 0 1 = cc in omega arith)
 
 -- from some moment on, the run is where it was a round before
-record Again (x : Items) : Type 0 where
+record Recurs (x : Items) : Type 0 where
   pub moment : Moment
   pub round : ℕ
   pub long : 1 ≤ round
   pub same : (j : ℕ) → moment ≤ j → here (spot (x .places) (j + round)) ≡ here (spot (x .places) j)
 
-comes-again : (x : Items) → Laid (x .places) → Closed x → Again x
+comes-again : (x : Items) → Laid (x .places) → Closed x → Recurs x
 comes-again x laid c =
     record {
       moment = to .moment;

@@ -61,18 +61,18 @@ all-at P (x ∷ l) d (also h t) p zero = h
 all-at P (x ∷ l) d (also h t) p (suc i) = all-at P l d t p i
 
 -- what is true of every element and of what stands past the end
-by-end : {A : Type 0} (P : A → Type 0) (l : List A) (d : A) (i : ℕ) → (i < length l → P (getD l i d)) → P d → P (getD l i d)
+pub by-end : {A : Type 0} (P : A → Type 0) (l : List A) (d : A) (i : ℕ) → (i < length l → P (getD l i d)) → P d → P (getD l i d)
 by-end P l d i f p =
     elim (decLt i (length l)) [ yes h ↦ f h | no h ↦ subst P (sym (List·getD-eq-default l d {n = i} (omega arith))) p ]
 
 -- ---- a field
 
 -- a field with the number z from -n to n
-abbrev InRange : ℕ → ℤ → Type 0
-InRange n z = beyond (fromTo (negℤ (pos n)) (pos n)) (Number z) ≡ false
+abbrev pub FieldWithin : ℕ → ℤ → Type 0
+FieldWithin n z = beyond (fromTo (negℤ (pos n)) (pos n)) (Number z) ≡ false
 
-within : (n : ℕ) (z : ℤ) → InRange n z → Within n z
-within n z e =
+pub field-within : (n : ℕ) (z : ℤ) → FieldWithin n z → Within n z
+field-within n z e =
     let b = neither (ltZ z (negℤ (pos n))) (ltZ (pos n) z) e in
     (le-in (lt-false z (negℤ (pos n)) (b .0)), le-in (lt-false (pos n) z (b .1)))
 
@@ -82,12 +82,12 @@ each-within : (n : ℕ) (s : Sort) → rangeOf s ≡ fromTo (negℤ (pos n)) (po
     → All (Within n) zs
 each-within n s e [] us xs h = none
 each-within n s e (z ∷ zs) us xs h =
-    also (within n z (subst (λ r. beyond r (Number z) ≡ false) e (h 0))) (each-within n s e zs us xs (λ j. h (suc j)))
+    also (field-within n z (subst (λ r. beyond r (Number z) ≡ false) e (h 0))) (each-within n s e zs us xs (λ j. h (suc j)))
 
 -- numbers that are all 0
-zeros-within : (n k : ℕ) → InRange n (pos 0) → All (Within n) (replicate k (pos 0))
+zeros-within : (n k : ℕ) → FieldWithin n (pos 0) → All (Within n) (replicate k (pos 0))
 zeros-within n zero z = none
-zeros-within n (suc k) z = also (within n (pos 0) z) (zeros-within n k z)
+zeros-within n (suc k) z = also (field-within n (pos 0) z) (zeros-within n k z)
 
 from-to : (l h n : ℕ) → beyond (fromTo (pos l) (pos h)) (Number (pos n)) ≡ false → (l ≤ n) × (n ≤ h)
 from-to l h n e =
@@ -120,17 +120,17 @@ MarkHas n (mark.Counted l r b) = (1 ≤ l) × (b < n) × (1 ≤ r) × (r ≤ 100
 MarkHas n (mark.Endless l b) = (1 ≤ l) × (b < n)
 
 -- what an item has, where so many items are held
-abbrev Has : Counts → (k : Kind) → Item k → Type 0
-Has n kind.State x = Unit {0}
-Has n kind.Guard x = (length (x .coefficients .at) ≤ counters) × All (Within 999) (x .coefficients .at)
-Has n kind.Move x = All (λ g. g < n .guards) (guardsOf x) × All (Within 9999) (x .updates .at)
-Has n kind.Sentence x = Refers (n .sentences) (x .form)
-Has n kind.Place x = (x .state < n .states) × Names (n .moves) (x .way) × MarkHas (n .moves) (x .mark)
+abbrev ItemHas : Counts → (k : Kind) → Item k → Type 0
+ItemHas n kind.State x = Unit {0}
+ItemHas n kind.Guard x = (length (x .coefficients .at) ≤ counters) × All (Within 999) (x .coefficients .at)
+ItemHas n kind.Move x = All (λ g. g < n .guards) (guardsOf x) × All (Within 9999) (x .updates .at)
+ItemHas n kind.Sentence x = Refers (n .sentences) (x .form)
+ItemHas n kind.Place x = (x .state < n .states) × Names (n .moves) (x .way) × MarkHas (n .moves) (x .mark)
 
 module _ (n : Counts) where
   -- an item has it that meets the rules of its kind
   abbrev Given : (k : Kind) → Item k → Type 0
-  Given k x = Fit k (rowOf k x) → Held n k (rowOf k x) → Has n k x
+  Given k x = Fit k (rowOf k x) → Held n k (rowOf k x) → ItemHas n k x
 
   guard-has : (r : List Field) → Given kind.Guard (guardOf r)
   unfolding rowOf ruleAt shapeOf guardOf perCounter
@@ -222,10 +222,10 @@ module _ (c : Case) (s : Sound c) where
   abbrev x : Items
   x = itemsOf c
 
-  held : (k : Kind) (i : ℕ) → i < length (listOf k x) → Has (reach (countsOf x) k i) k (getD (listOf k x) i (noItem k))
+  held : (k : Kind) (i : ℕ) → i < length (listOf k x) → ItemHas (reach (countsOf x) k i) k (getD (listOf k x) i (noItem k))
   held k i h =
       let l : i < countOf (c .count) k = omega (arith, counted c s k) in
-      subst (λ n. Has (reach n k i) k (getD (listOf k x) i (noItem k))) (counts-are c s)
+      subst (λ n. ItemHas (reach n k i) k (getD (listOf k x) i (noItem k))) (counts-are c s)
       (item-has (reach (c .count) k i) k (getD (listOf k x) i (noItem k)) (s .read k i l) (s .fit k i l)
       (λ f. tells-false _ (tells-there k _ f (reach (c .count) k i)) (s .there k i l f)))
 
@@ -263,8 +263,8 @@ module _ (c : Case) (s : Sound c) where
         backs = λ p t h. has-back (length (x .moves)) t (markAt (x .places) p) (marks p);
         guards = λ t h. held kind.Move t h .0;
         refers = held kind.Sentence;
-        starts = λ j. within mostStart (pos 0) refl;
-        updates = λ t. all-at (Within 9999) _ (pos 0) (adds t) (within 9999 (pos 0) refl);
+        starts = λ j. field-within mostStart (pos 0) refl;
+        updates = λ t. all-at (Within 9999) _ (pos 0) (adds t) (field-within 9999 (pos 0) refl);
         coefficients =
-            λ g. by-end (Has (countsOf x) kind.Guard) (x .guards) (noItem kind.Guard) g (held kind.Guard g) (omega arith, zeros-within 999 counters refl);
+            λ g. by-end (ItemHas (countsOf x) kind.Guard) (x .guards) (noItem kind.Guard) g (held kind.Guard g) (omega arith, zeros-within 999 counters refl);
       }

@@ -34,15 +34,15 @@ pub record Repeats (P : ℕ → List Place) : Type 0 where
   pub later-way : (k m : ℕ) → start ≤ m → wayTaken (P (suc k)) (m + round) ≡ wayTaken (P k) m
 
 -- a spot in the loop that place s begins and the spot a round before it; or a spot after the loop
-data Later (s : ℕ) : Spot → Spot → Type 0 where
-  in-loop : (o r : ℕ) → Later s (spotAt s o (r + 1)) (spotAt s o r)
-  past : (x : Spot) → s < x .first → Later s x x
+data RoundLater (s : ℕ) : Spot → Spot → Type 0 where
+  in-loop : (o r : ℕ) → RoundLater s (spotAt s o (r + 1)) (spotAt s o r)
+  past : (x : Spot) → s < x .first → RoundLater s x x
 
 -- two steps to such spots, both by a back move or neither
-abbrev Both : ℕ → Step → Step → Type 0
-Both s x y = Later s (x .to) (y .to) × (x .back ≡ y .back)
+abbrev StepsLater : ℕ → Step → Step → Type 0
+StepsLater s x y = RoundLater s (x .to) (y .to) × (x .back ≡ y .back)
 
-later-here : (s : ℕ) {x y : Spot} → Later s x y → here x ≡ here y
+later-here : (s : ℕ) {x y : Spot} → RoundLater s x y → here x ≡ here y
 later-here s (in-loop o r) = refl
 later-here s (past x h) = refl
 
@@ -141,19 +141,19 @@ module _ (ps : List Place) (laid : Laid ps) (s l n b : ℕ) (h : s < length ps) 
 
   -- ---- from the start of the loop on, one round later
 
-  later-inside : (o r : ℕ) (on more : Bool) → Both s (stepFrom o (r + 1) on more) (stepFrom o r on more)
+  later-inside : (o r : ℕ) (on more : Bool) → StepsLater s (stepFrom o (r + 1) on more) (stepFrom o r on more)
   later-inside o r true more = (in-loop (o + 1) r, refl)
   later-inside o r false true = (in-loop 0 (r + 1), refl)
   later-inside o r false false = (past (spotAt (s + l) 0 0) (omega (arith, long)), refl)
 
-  later-step : (k : ℕ) {x y : Spot} → Later s x y → Both s (next (P (suc k)) x) (next (P k) y)
+  later-step : (k : ℕ) {x y : Spot} → RoundLater s x y → StepsLater s (next (P (suc k)) x) (next (P k) y)
   later-step k (in-loop o r) =
       let w : ltb (r + 1 + 1) (suc (suc k)) ≡ ltb (r + 1) (suc k) = leb·suc-suc (r + 1 + 1) (suc k) ∙ ap (λ i. leb i (suc k)) (add-one (r + 1)) in
       rw (this-step (suc k) o (r + 1), this-step k o r, w) (later-inside o r (ltb (o + 1) l) (ltb (r + 1) (suc k)))
   later-step k (past x g) =
       rw (other-step (suc k) x (λ w. omega arith), other-step k x (λ w. omega arith)) (past (next ps x .to) (omega (arith, no-less ps x)), refl)
 
-  later : (k t m : ℕ) → m ≡ start + t → Later s (spot (P (suc k)) (m + l)) (spot (P k) m)
+  later : (k t m : ℕ) → m ≡ start + t → RoundLater s (spot (P (suc k)) (m + l)) (spot (P k) m)
   unfolding spot
   later k zero m d =
       let u : m + l ≡ start + (1 * l + 0) = omega arith in

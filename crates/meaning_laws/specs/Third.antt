@@ -25,7 +25,7 @@ use Rattle.items.specs.declared.Place.{Place}
 use Rattle.items.specs.Lists.{Items, noItem}
 use Rattle.rules.specs.Rules.{markAt}
 use Rattle.meaning.specs.Run.{Moment, here, spot, wayTaken, Way, moveBy, update, countersAt, Meets, guardAt}
-use Rattle.meaning.specs.Truth.{Says, True, bit, Until, countedTerms}
+use Rattle.meaning.specs.Truth.{Says, bit, Until, countedTerms}
 use Rattle.meaning.specs.Judged.{IsAccepted, stateAt, Test, Passes, marksOf, Right, marked, root, TrueAt, traceOf}
 use Rattle.meaning.specs.Rounds.{placesWith, withRounds}
 use Rattle.verdict.specs.Labels.{Label, labelOf}
@@ -36,7 +36,7 @@ use Rattle.meaning_laws.specs.Counting.{Gets}
 use Rattle.meaning_laws.specs.Below.{below, RightBelow, SaysBelow, until-labels}
 use Rattle.meaning_laws.specs.Stays.{in-plan}
 use Rattle.meaning_laws.specs.Repeats.{Repeats, repeats}
-use Rattle.meaning_laws.specs.Between.{Later, is-later, same, OneWay, one-way, sum-same, sum-plus, left, left-later, next-left, first-round, places-before, ways-before, places-later, ways-later, labels, gets-same, gets-one-way}
+use Rattle.meaning_laws.specs.Between.{MoreRounds, is-later, same, OneWay, one-way, sum-same, sum-plus, left, left-later, next-left, first-round, places-before, ways-before, places-later, ways-later, labels, gets-same, gets-one-way}
 
 module _ (x : Items) (f : Facts x) (s l n back : ℕ) (held : s < length (x .places)) (is : markAt (x .places) s ≡ mark.Counted l n back) (θ : Valuation) where
   -- the case with k + 1 rounds
@@ -57,7 +57,7 @@ module _ (x : Items) (f : Facts x) (s l n back : ℕ) (held : s < length (x .pla
   same-update k m v w j e = ap (λ t. update t j) (same-move x s (suc k) v ∙ ap (moveBy x) e ∙ sym (same-move x s (suc m) w))
 
   -- before the loop is left the counters are the same
-  counters-before : {k m d : ℕ} → Later (r .round) k m d → (i j : ℕ) → i < left P r k → countersAt (X m) θ i j ≡ countersAt (X k) θ i j
+  counters-before : {k m d : ℕ} → MoreRounds (r .round) k m d → (i j : ℕ) → i < left P r k → countersAt (X m) θ i j ≡ countersAt (X k) θ i j
   unfolding countersAt
   counters-before h zero j g = refl
   counters-before {k} {m} h (suc i) j g =
@@ -67,7 +67,7 @@ module _ (x : Items) (f : Facts x) (s l n back : ℕ) (held : s < length (x .pla
   drift : Valuation
   drift j = countersAt (X 1) θ (r .start + r .round) j +ℤ negℤ (countersAt (X 0) θ (r .start) j)
 
-  from-first : (k : ℕ) → (d : ℕ) × Later (r .round) 0 k d
+  from-first : (k : ℕ) → (d : ℕ) × MoreRounds (r .round) 0 k d
   from-first k = is-later (r .round) 0 k (omega arith)
 
   rest : (a b c d : ℤ) → a ≡ c → b ≡ d → a ≡ b +ℤ (c +ℤ negℤ d)
@@ -123,7 +123,7 @@ module _ (x : Items) (f : Facts x) (s l n back : ℕ) (held : s < length (x .pla
 
   -- ---- a ≤ b ≤ c
 
-  module _ {a b c d e : ℕ} (ab : Later (r .round) a b d) (bc : Later (r .round) b c e) where
+  module _ {a b c d e : ℕ} (ab : MoreRounds (r .round) a b d) (bc : MoreRounds (r .round) b c e) where
     -- in the run with k + 1 rounds, Q is at each moment as sentence i is marked
     abbrev Told : ℕ → ℕ → (Moment → Type 0) → Type 0
     Told k i Q = (m : Moment) → (marked x i (here (spot (P k) m)) ≡ true) ↔ Q m

@@ -8,7 +8,7 @@ use lib.ListN.{length, getD, take}
 use Rattle.record.specs.declared.Field.{Field}
 use Rattle.record.specs.Layout.{recordOf, cut}
 use Rattle.kinds.specs.declared.Kind.{Kind}
-use Rattle.kinds.specs.Kinds.{letterOf, total}
+use Rattle.kinds.specs.Kinds.{letterOf, countsTotal}
 use Rattle.items.specs.Items.{itemOf}
 use Rattle.items.specs.Lists.{Items, itemsBy, countsOf}
 use Rattle.answers.specs.declared.Answer.{Answer}
@@ -29,7 +29,7 @@ spelled bs = spelledBy (cut bs)
 
 -- how many items a case has
 abbrev pub itemCount : Items → ℕ
-itemCount x = total (countsOf x)
+itemCount x = countsTotal (countsOf x)
 
 -- no refusal applies to any record, where the records before it spell the case
 abbrev pub AllTaken : List (List ℕ) → Type 0

@@ -17,7 +17,7 @@ use Rattle.record.specs.Layout.{fields, at, recordOf}
 use Rattle.kinds.specs.declared.Kind.{Kind}
 use Rattle.kinds.specs.declared.Kind.the-variants.{Place}
 use Rattle.kinds.specs.declared.Counts.{Counts}
-use Rattle.kinds.specs.Kinds.{kinds, countOf, countsBy, overKinds, total, same, letterOf, rankOf}
+use Rattle.kinds.specs.Kinds.{kinds, countOf, overKinds, countsTotal, same, letterOf, rankOf}
 use Rattle.kinds.specs.Laws.{same-self, by-kind, count-by, counts-same}
 use Rattle.kinds.specs.Last.{lastRank}
 use Rattle.kinds.specs.Table.{shapeOf, natural, isNumber, isBlank}
@@ -58,14 +58,14 @@ module _ (k : Kind) (f : (j : Kind) → List (Item j) → List (Item j)) (x : It
   changed-other j e = list-by lists j ∙ ap (λ t. cond t (f j (listOf j x)) (listOf j x)) e
 
 module _ (n : Counts) (k : Kind) where
-  abbrev more : Kind → ℕ
-  more j = cond (same k j) (countOf n j + 1) (countOf n j)
+  abbrev moreOf : Kind → ℕ
+  moreOf j = cond (same k j) (countOf n j + 1) (countOf n j)
 
   pub count-more : countOf (oneMore n k) k ≡ countOf n k + 1
-  count-more = count-by more k ∙ ap (λ t. cond t (countOf n k + 1) (countOf n k)) (same-self k)
+  count-more = count-by moreOf k ∙ ap (λ t. cond t (countOf n k + 1) (countOf n k)) (same-self k)
 
   pub count-other : (j : Kind) → same k j ≡ false → countOf (oneMore n k) j ≡ countOf n j
-  count-other j e = count-by more j ∙ ap (λ t. cond t (countOf n j + 1) (countOf n j)) e
+  count-other j e = count-by moreOf j ∙ ap (λ t. cond t (countOf n j + 1) (countOf n j)) e
 
 -- ---- the case that holds given items
 
@@ -155,7 +155,7 @@ counts-are c s = kept-counts c (s .same)
 
 module _ {c : Case} (s : Sound c) where
   -- all that is held has room
-  pub total-room : total (c .count) ≤ overKinds roomOf
+  pub total-room : countsTotal (c .count) ≤ overKinds roomOf
   total-room = sum-le (countOf (c .count)) roomOf (s .room) kinds
 
   -- what is kept beside the items follows from them

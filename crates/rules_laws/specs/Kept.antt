@@ -4,7 +4,7 @@ use mathlib.Core.Logic.{_↔_, inl, inr, ⊎-elim}
 use mathlib.Core.List.{List, [], _∷_, _++_}
 use mathlib.Core.Bool.{Bool, true, false, cond, _&&_, _||_, true≢false}
 use Prim.Native.Nat.{ℕ, zero, suc, _+_, _^_, _≤_, _<_}
-use native.Mathlib.Nat.{le-refl, pow-le-pow-right}
+use native.Mathlib.Nat.{pow-le-pow-right}
 use native.Mathlib.Omega.{arith}
 use native.Mathlib.Decide.{decLt}
 use lib.Dec.{ltb, eqb, eqb·suc-zero}
@@ -21,7 +21,6 @@ use Rattle.kinds.specs.declared.Kind.{Kind}
 use Rattle.kinds.specs.declared.Kind.the-variants as kind
 use Rattle.kinds.specs.declared.Counts.{Counts}
 use Rattle.kinds.specs.declared.Sort.the-variants as sort
-use Rattle.kinds.specs.declared.Rule.the-variants as rule
 use Rattle.kinds.specs.Kinds.{countOf, same}
 use Rattle.kinds.specs.Laws.{same-is, same-self, by-kind, count-by}
 use Rattle.kinds.specs.Table.{natural, isNumber, isBlank, neededIf, inFilled, ruleAt, shapeOf}
@@ -42,7 +41,7 @@ use Rattle.collector.specs.Taking.{isClosed, isOpen, isLong, takenOf}
 use Rattle.collector.specs.Sound.{Sound, Fit, There, reach, shape, LoopsApart}
 use Rattle.rules_laws.specs.Fields.{met, fields-again}
 use Rattle.rules_laws.specs.Held.{count-more, count-other, counted, kept-counted, derived, items-with, same-kind, other-list, kept-with, empty-kept, empty-list, refused-same, Placed, IsTaken, taken-with}
-use Rattle.rules_laws.specs.Loops.{MarkFits, apart-snoc}
+use Rattle.rules_laws.specs.Loops.{MarkMayCome, apart-snoc}
 
 -- ---- what is there stays there
 
@@ -125,7 +124,7 @@ long-enough r f l e =
 -- the tests of its mark, where n places are held
 mark-fits : (l : Loops) (n : ℕ) (m : LoopMark) → n < roomOf kind.Place → isClosed l n ≡ false →
     (isNumber (lengthField m) && (isOpen l n || isLong n (natural (lengthField m)))) ≡ false →
-    ((z : ℕ) → lengthField m ≡ content.Number (pos z) → 0 < z) → MarkFits l n m
+    ((z : ℕ) → lengthField m ≡ content.Number (pos z) → 0 < z) → MarkMayCome l n m
 mark-fits l n mark.None h g e w =
     record { going = g; apart = λ x. absurd (x refl); within = omega arith; whole = λ x. absurd (true≢false (sym x)) }
 mark-fits l n (mark.Counted z r b) h g e w =
@@ -149,7 +148,7 @@ all-snoc P l x d n e old new i h =
     ]
 
 -- the item of kind k that the row r becomes may come next
-record Fits (c : Case) (k : Kind) (r : List Field) : Type 0 where
+record MayCome (c : Case) (k : Kind) (r : List Field) : Type 0 where
   room : countOf (c .count) k < roomOf k
   fit : Fit k r
   there : There (c .count) k r
@@ -167,17 +166,17 @@ one-place n ps p e h s f t =
     let l = loopsFrom noLoops 0 ps in
     let q : at (rowOf kind.Place p) 4 ≡ lengthField (p .mark) = field-four (p .state) (p .way) (p .marks) (p .mark) in
     let w : (n ≡ 0) ↔ (p .way ≡ ref.None) = way-at n (p .way) (rw (field-two p) at (t .way)) in
-    let m : MarkFits l n (p .mark) = mark-fits l n (p .mark) h (t .before) (rw q at (t .mark)) (λ j g. long-enough (rowOf kind.Place p) f j (q ∙ g)) in
+    let m : MarkMayCome l n (p .mark) = mark-fits l n (p .mark) h (t .before) (rw q at (t .mark)) (λ j g. long-enough (rowOf kind.Place p) f j (q ∙ g)) in
     record {
       ways = all-snoc (λ i (q : Place). (i ≡ 0) ↔ (q .way ≡ ref.None)) ps p (noItem kind.Place) n e (s .ways) w;
-      loops = apart-snoc ps p (s .loops) (subst (λ j. MarkFits l j (p .mark)) (sym e) m) (omega arith);
+      loops = apart-snoc ps p (s .loops) (subst (λ j. MarkMayCome l j (p .mark)) (sym e) m) (omega arith);
     }
 
 module _ (c : Case) (s : Sound c) where
   places : Places (c .count .places) (itemsOf c .places)
   places = record { ways = s .ways; loops = s .loops }
 
-  module _ (k : Kind) (r : List Field) (t : Fits c k r) where
+  module _ (k : Kind) (r : List Field) (t : MayCome c k r) where
     abbrev x : Item k
     x = itemOf k r
 
@@ -254,7 +253,7 @@ sound-empty =
     none : (k : Kind) → countOf (emptyCase .count) k ≡ 0
     none k = sym (kept-counted emptyCase empty-kept k) ∙ ap length (empty-list k)
 
-taken-fits : (c : Case) (bs : List ℕ) (t : IsTaken c bs) → Fits c (t .kind) (recordOf bs .fields)
+taken-fits : (c : Case) (bs : List ℕ) (t : IsTaken c bs) → MayCome c (t .kind) (recordOf bs .fields)
 unfolding recordOf
 taken-fits c bs t =
     record {

@@ -167,40 +167,40 @@ module _ (x : Items) (a : LoopsApart (x .places)) where
 -- ---- one place more
 
 -- a place with this mark may come as place n, where these loops are held
-pub record MarkFits (l : Loops) (n : ℕ) (m : LoopMark) : Type 0 where
+pub record MarkMayCome (l : Loops) (n : ℕ) (m : LoopMark) : Type 0 where
   pub going : isClosed l n ≡ false
   pub apart : (m ≡ mark.None → ⊥) → isOpen l n ≡ false
   pub within : n + lengthOf m ≤ roomOf kind.Place
   pub whole : isEndless m ≡ true → 0 < lengthOf m
 
 module _ (ps : List Place) (p : Place) where
-  abbrev after : List Place
-  after = ps ++ (p ∷ [])
+  abbrev oneMorePlace : List Place
+  oneMorePlace = ps ++ (p ∷ [])
 
-  old-mark : (i : ℕ) → i < length ps → markAt after i ≡ markAt ps i
+  old-mark : (i : ℕ) → i < length ps → markAt oneMorePlace i ≡ markAt ps i
   old-mark i h = ap (λ (q : Place). q .mark) (List·getD-append ps (p ∷ []) (noItem kind.Place) i h)
 
-  new-mark : (i : ℕ) → i ≡ length ps → markAt after i ≡ p .mark
+  new-mark : (i : ℕ) → i ≡ length ps → markAt oneMorePlace i ≡ p .mark
   new-mark i e = ap (λ (q : Place). q .mark) (getD-at ps p [] (noItem kind.Place) i (sym e))
 
-  long : length after ≡ length ps + 1
+  long : length oneMorePlace ≡ length ps + 1
   long = length-append ps (p ∷ [])
 
   -- a place is one before, the new one, or has no mark
   abbrev Where : ℕ → Type 0
-  Where i = (i < length ps) ⊎ (i ≡ length ps) ⊎ (markAt after i ≡ mark.None)
+  Where i = (i < length ps) ⊎ (i ≡ length ps) ⊎ (markAt oneMorePlace i ≡ mark.None)
 
   where? : (i : ℕ) → Where i
   where? i =
       elim (decLt i (length ps)) [
         | yes h ↦ inl h
         | no h ↦ elim (decLt (length ps) i) [
-          | yes g ↦ inr (inr (ap (λ (q : Place). q .mark) (List·getD-eq-default after (noItem kind.Place) (omega (arith, long)))))
+          | yes g ↦ inr (inr (ap (λ (q : Place). q .mark) (List·getD-eq-default oneMorePlace (noItem kind.Place) (omega (arith, long)))))
           | no g ↦ inr (inl (omega arith))
         ]
       ]
 
-  module _ (a : LoopsApart ps) (f : MarkFits (loopsFrom noLoops 0 ps) (length ps) (p .mark)) (room : length ps < roomOf kind.Place) where
+  module _ (a : LoopsApart ps) (f : MarkMayCome (loopsFrom noLoops 0 ps) (length ps) (p .mark)) (room : length ps < roomOf kind.Place) where
     not-open : isOpen (loopsOf ps) (length ps) ≡ false → (i : ℕ) → i < length ps → endAt ps i ≤ length ps
     not-open o i h = elim (decLt (length ps) (endAt ps i)) [ yes t ↦ absurd (clash (tells-open ps a i h t) o) | no t ↦ omega arith ]
 
@@ -208,19 +208,19 @@ module _ (ps : List Place) (p : Place) where
     not-closed i e =
         elim (decLt (length ps) (endAt ps i)) [ yes t ↦ t | no t ↦ absurd (clash (tells-closed ps a i e (omega arith)) (f .going)) ]
 
-    apart-at : (i j : ℕ) → i < j → j < length after → (markAt after j ≡ mark.None → ⊥) → Where j → endAt after i ≤ j
+    apart-at : (i j : ℕ) → i < j → j < length oneMorePlace → (markAt oneMorePlace j ≡ mark.None → ⊥) → Where j → endAt oneMorePlace i ≤ j
     apart-at i j b h m (inl g) =
         omega (arith, ap lengthOf (old-mark i (omega arith)), a .apart i j b g (λ e. m (old-mark j g ∙ e)))
     apart-at i j b h m (inr (inl g)) =
         omega (arith, ap lengthOf (old-mark i (omega arith)), not-open (f .apart (λ e. m (new-mark j g ∙ e))) i (omega arith))
     apart-at i j b h m (inr (inr g)) = absurd (m g)
 
-    within-at : (i : ℕ) → i < length after → Where i → endAt after i ≤ roomOf kind.Place
+    within-at : (i : ℕ) → i < length oneMorePlace → Where i → endAt oneMorePlace i ≤ roomOf kind.Place
     within-at i h (inl g) = omega (arith, ap lengthOf (old-mark i g), a .within i g)
     within-at i h (inr (inl g)) = omega (arith, ap lengthOf (new-mark i g), f .within)
     within-at i h (inr (inr g)) = omega (arith, ap lengthOf g, long)
 
-    last-at : (i : ℕ) → isEndless (markAt after i) ≡ true → Where i → length after ≤ endAt after i
+    last-at : (i : ℕ) → isEndless (markAt oneMorePlace i) ≡ true → Where i → length oneMorePlace ≤ endAt oneMorePlace i
     last-at i e (inl g) = omega (arith, ap lengthOf (old-mark i g), long, not-closed i (ap isEndless (sym (old-mark i g)) ∙ e))
     last-at i e (inr (inl g)) =
         omega (arith, ap lengthOf (new-mark i g), long, f .whole (ap isEndless (sym (new-mark i g)) ∙ e))

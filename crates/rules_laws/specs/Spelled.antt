@@ -14,7 +14,7 @@ use Rattle.record.specs.declared.Field.{Field}
 use Rattle.record.specs.Layout.{fields, fieldAt, recordOf, cut}
 use Rattle.kinds.specs.declared.Kind.{Kind}
 use Rattle.kinds.specs.declared.Counts.{Counts}
-use Rattle.kinds.specs.Kinds.{letterOf, countOf, total}
+use Rattle.kinds.specs.Kinds.{letterOf, countOf, countsTotal}
 use Rattle.kinds.specs.Laws.{by-kind, over-more}
 use Rattle.items.specs.Items.{itemOf, rowOf}
 use Rattle.items.specs.Lists.{listOf, itemsBy}
@@ -83,16 +83,16 @@ module _ (c : Case) (b : List ℕ) (rs : List (List ℕ)) (t : IsTaken c b) wher
   kept-more s = subst Kept (sym (t .case)) (kept-with c (t .kind) (recordOf b .fields) s (t .next .room))
 
   -- there is one item more
-  total-more : (n : Counts) (k : Kind) → total (oneMore n k) ≡ total n + 1
+  total-more : (n : Counts) (k : Kind) → countsTotal (oneMore n k) ≡ countsTotal n + 1
   unfolding sumOver
   total-more n k = over-more (countOf n) k
 
   pub size-more : Kept c → itemCount (itemsOf (takenOf c b .case)) ≡ itemCount (itemsOf c) + 1
   size-more s =
-      ap total (sym (kept-counts (takenOf c b .case) (kept-more s)))
-      ∙ ap (λ d. total (d .count)) (t .case)
+      ap countsTotal (sym (kept-counts (takenOf c b .case) (kept-more s)))
+      ∙ ap (λ d. countsTotal (d .count)) (t .case)
       ∙ total-more (c .count) (t .kind)
-      ∙ ap (λ n. total n + 1) (kept-counts c s)
+      ∙ ap (λ n. countsTotal n + 1) (kept-counts c s)
 
 -- ---- a row of records
 

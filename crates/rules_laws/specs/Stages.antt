@@ -1,27 +1,32 @@
 -- How an answer is shown to be the first that applies: the refusals are passed one after another, in the order of the tests. Assumes nothing.
 use mathlib.Core.Path.{_≡_, refl, _∙_, sym, ap, subst}
 use mathlib.Core.Logic.{_⊎_, inr, ⊎-elim}
-use mathlib.Core.List.{List}
-use mathlib.Core.Bool.{Bool, true, false, cond}
+use mathlib.Core.List.{List, [], _∷_}
+use mathlib.Core.Bool.{Bool, true, false, cond, _||_}
 use Prim.Native.Nat.{ℕ, zero, suc, _≤_, _<_}
 use native.Mathlib.Nat.{eq-or-lt-of-le, le-of-suc-le-suc}
 use native.Mathlib.Omega.{arith}
 use native.Mathlib.Decide.{decLt}
-use lib.Dec.{eqb, leb, lit≤}
+use lib.Dec.{eqb, leb}
 use lib.ListN.{length, getD, List·getD-eq-default}
 use borrow.Author.Tests.{leb-true, leb-false, ne-eqb}
 use Rattle.laws.specs.Lowest.{lowest, lowest-is}
+use Rattle.laws.specs.Members.{allOf, holds-at}
 use Rattle.laws.specs.Tab.{length-tab}
 use Rattle.laws.specs.Tests.{cond-by, Tells, tells-not}
 use Rattle.record.specs.declared.Content.the-variants as content
 use Rattle.record.specs.declared.Field.{Field}
 use Rattle.record.specs.Layout.{fields, fieldAt, recordOf, at}
 use Rattle.kinds.specs.declared.Kind.{Kind}
-use Rattle.kinds.specs.declared.Kind.the-variants.{State, Guard, Move, Sentence, Place}
+use Rattle.kinds.specs.declared.Kind.the-variants.{Sentence}
 use Rattle.kinds.specs.declared.Rule.{Rule}
 use Rattle.kinds.specs.declared.Rule.the-variants as rule
+use Rattle.kinds.specs.declared.Rule.the-variants.{Needed}
+use Rattle.kinds.specs.declared.Sort.the-variants.{Form}
 use Rattle.kinds.specs.declared.Shape.{Shape}
-use Rattle.kinds.specs.Table.{rulesOf, ruleAt, counters, inFilled}
+use Rattle.kinds.specs.Kinds.{same}
+use Rattle.kinds.specs.Laws.{by-kind, every}
+use Rattle.kinds.specs.Table.{formRows, rulesOf, ruleAt, counters, inFilled}
 use Rattle.items.specs.Lists.{Items}
 use Rattle.answers.specs.declared.Answer.{Answer}
 use Rattle.answers.specs.declared.Answer.the-variants.{Taken}
@@ -42,21 +47,16 @@ Nowhere P = (g : ℕ) → P g → ⊥
 pub no-lowest : {P : ℕ → Type 0} {f : ℕ} → Nowhere P → Lowest P f → ⊥
 no-lowest {P} {f} none l = none f (l .holds)
 
--- there is no field 0 and none past the last, so there is no fault: what it says is blank, and so is its rule
-row-short : (k : Kind) (f : ℕ) (x : ℕ → Bool) → length (rulesOf counters k f x) ≤ fields
-row-short State f x = lit≤ tt
-row-short Guard f x = lit≤ tt
-row-short Move f x = lit≤ tt
-row-short Sentence zero x = lit≤ tt
-row-short Sentence (suc zero) x = lit≤ tt
-row-short Sentence (suc (suc zero)) x = lit≤ tt
-row-short Sentence (suc (suc (suc zero))) x = lit≤ tt
-row-short Sentence (suc (suc (suc (suc zero)))) x = lit≤ tt
-row-short Sentence (suc (suc (suc (suc (suc zero))))) x = lit≤ tt
-row-short Sentence (suc (suc (suc (suc (suc (suc zero)))))) x = lit≤ tt
-row-short Sentence (suc (suc (suc (suc (suc (suc (suc f))))))) x = lit≤ tt
-row-short Place f x = lit≤ tt
+-- no row of rules is longer than a record: tested of the forms' rows, and of every other kind
+row-short : (f : ℕ) (x : ℕ → Bool) (k : Kind) → length (rulesOf counters k f x) ≤ fields
+unfolding allOf
+row-short f x =
+    let short : Kind → Bool = λ k. leb (length (rulesOf counters k f x)) fields in
+    by-kind (λ k. length (rulesOf counters k f x) ≤ fields) Sentence
+    (leb-true _ fields (holds-at (λ r. leb (length (Needed Form ∷ r)) fields) (formRows x) [] refl refl f))
+    (λ k e. leb-true _ fields (subst (λ t. (t || short k) ≡ true) e (every (λ j. same Sentence j || short j) refl k)))
 
+-- there is no field 0 and none past the last, so there is no fault: what it says is blank, and so is its rule
 blank-fault : (f : Fault) → hasFault f rule.Blank content.Blank ≡ false
 blank-fault fault.Misspelled = refl
 blank-fault fault.Missing = refl
@@ -71,7 +71,7 @@ past-fault f s bs (suc k) h =
     let row : List Rule = rulesOf counters (s .kind) (s .form) (inFilled (s .filled)) in
     let blank : Field = record { content = content.Blank } in
     let p : fields < suc k = h (omega arith) in
-    let m : length row ≤ k = omega (arith, row-short (s .kind) (s .form) (inFilled (s .filled))) in
+    let m : length row ≤ k = omega (arith, row-short (s .form) (inFilled (s .filled)) (s .kind)) in
     let l : length (recordOf bs .fields) ≤ k = omega (arith, length-tab (fieldAt bs) fields 1) in
     ap (λ r. hasFault f r (at (recordOf bs .fields) (suc k))) (List·getD-eq-default row rule.Blank m)
     ∙ ap (λ c. hasFault f rule.Blank (c .content)) (List·getD-eq-default (recordOf bs .fields) blank l)

@@ -5,3 +5,4 @@ pub mod Moves
 pub mod WaySums
 pub mod Sizes
 pub mod Stretches
+pub mod Known

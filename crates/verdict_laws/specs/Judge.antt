@@ -127,41 +127,41 @@ module _ (x : Items) where
         })))
 
     -- sentence i at place p, and at each place
-    abbrev markOf : ℕ → ℕ → Mark
-    markOf i p = record { sentence = i; place = p }
+    abbrev markFor : ℕ → ℕ → Mark
+    markFor i p = record { sentence = i; place = p }
 
-    abbrev row : ℕ → List Mark
-    row i = map (markOf i) (from 0 (length (x .places)))
+    abbrev marksFor : ℕ → List Mark
+    marksFor i = map (markFor i) (from 0 (length (x .places)))
 
     -- the test of a mark tells, where the marks of the sentences below are right
     module _ (i : ℕ) (b : RightBelow x θ i) where
-      mark-tells : i < length (x .sentences) → (p : ℕ) → p < length (x .places) → Sorts (markRight x θ (markOf i p)) (Right x θ (markOf i p)) (Wrong x θ (markOf i p))
+      mark-tells : i < length (x .sentences) → (p : ℕ) → p < length (x .places) → Sorts (markRight x θ (markFor i p)) (Right x θ (markFor i p)) (Wrong x θ (markFor i p))
       mark-tells l p h =
           let φ = getD (x .sentences) i (noItem kind.Sentence) .form in
           let s = mark-sorts (marked x i p) (formThrough x θ φ p) (form-tells x f c θ i b p h φ (f .refers i l)) in
           record { good = λ e. record { same = s .good e }; bad = λ e. let (m, d, w) = s .bad e in record { moment = m; there = d; differs = w } }
 
-      row-told : i < length (x .sentences) → Sorted (Right x θ) (Wrong x θ) (markRight x θ) (row i)
+      row-told : i < length (x .sentences) → Sorted (Right x θ) (Wrong x θ) (markRight x θ) (marksFor i)
       row-told l =
           told-all
-          (has-all (row i)
+          (has-all (marksFor i)
           (λ k m.
-          let (p, h, e) = Memᴰ·of-map (markOf i) (from 0 (length (x .places))) m in
+          let (p, h, e) = Memᴰ·of-map (markFor i) (from 0 (length (x .places))) m in
           subst (λ k. Sorts (markRight x θ k) (Right x θ k) (Wrong x θ k)) e (mark-tells l p (has-below (length (x .places)) p .0 h))))
 
       -- so those of one sentence more are
-      right-more : All (Right x θ) (row i) → RightBelow x θ (suc i)
+      right-more : All (Right x θ) (marksFor i) → RightBelow x θ (suc i)
       right-more a j l m =
           let p = here (spot (x .places) m) in
           elim (decLt j i) [
             | yes w ↦ b j w m
             | no w ↦
                 let e : i ≡ j = omega arith in
-                rw e at (all-has a (Memᴰ·map (markOf i) (has-below (length (x .places)) p .1 (in-plan x (f .laid) c m))) .same m refl)
+                rw e at (all-has a (Memᴰ·map (markFor i) (has-below (length (x .places)) p .1 (in-plan x (f .laid) c m))) .same m refl)
           ]
 
     -- the n sentences from i on
-    marks-told : (i n : ℕ) → i + n ≡ length (x .sentences) → RightBelow x θ i → Sorted (Right x θ) (Wrong x θ) (markRight x θ) (gather row (from i n))
+    marks-told : (i n : ℕ) → i + n ≡ length (x .sentences) → RightBelow x θ i → Sorted (Right x θ) (Wrong x θ) (markRight x θ) (gather marksFor (from i n))
     unfolding from gather
     marks-told i zero e b = end
     marks-told i (suc n) e b =

@@ -156,26 +156,26 @@ chain-keeps l p zero v w h = h
 chain-keeps l p (suc n) v w h = step-keeps (l p) (chain l (suc p) n v) (chain l (suc p) n w) (chain-keeps l (suc p) n v w h)
 
 -- v after the sum s
-abbrev after : Best → Best → Best
-after best.None v = best.None
-after (best.Sum z) v = plus z v
-after best.Any v = best.None
+abbrev afterSum : Best → Best → Best
+afterSum best.None v = best.None
+afterSum (best.Sum z) v = plus z v
+afterSum best.Any v = best.None
 
-onward-is : (l : Label) (a s v : Best) → onward l (greater a (after s v)) ≡ greater (onward l a) (after (onward l s) v)
+onward-is : (l : Label) (a s v : Best) → onward l (greater a (afterSum s v)) ≡ greater (onward l a) (afterSum (onward l s) v)
 unfolding greater
 onward-is l a s v = go (l .held) s
   where
     w : ℤ
     w = l .weight
 
-    go : (t : Bool) (s : Best) → cond t (plus w (greater a (after s v))) best.None ≡ greater (cond t (plus w a) best.None) (after (cond t (plus w s) best.None) v)
+    go : (t : Bool) (s : Best) → cond t (plus w (greater a (afterSum s v))) best.None ≡ greater (cond t (plus w a) best.None) (afterSum (cond t (plus w s) best.None) v)
     go true best.None = plus-greater w a best.None
     go true (best.Sum z) = plus-greater w a (plus z v) ∙ ap (greater (plus w a)) (plus-plus w z v)
     go true best.Any = plus-greater w a best.None
     go false s = refl
 
 -- to stop in the chain, or to go through all of it
-chain-is : (l : ℕ → Label) (p n : ℕ) (v : Best) → chain l p n v ≡ greater (chain l p n best.None) (after (wholeSum l p n) v)
+chain-is : (l : ℕ → Label) (p n : ℕ) (v : Best) → chain l p n v ≡ greater (chain l p n best.None) (afterSum (wholeSum l p n) v)
 unfolding chain wholeSum step greater
 chain-is l p zero v = sym (plus-zero v)
 chain-is l p (suc n) v = ap (step (l p)) (chain-is l (suc p) n v) ∙ rw (onward-is, greater-assoc)
@@ -209,7 +209,7 @@ power-some : (a : Best) (z : ℤ) (k : ℕ) (v : Best) → power a (best.Sum z) 
 unfolding power
 power-some a z k v = let e : suc k - 1 ≡ k = omega arith in rw (eqb·suc-zero k, e)
 
-power-more : (a s : Best) (k : ℕ) (v : Best) → power a s (suc k) v ≡ greater a (after s (power a s k v))
+power-more : (a s : Best) (k : ℕ) (v : Best) → power a s (suc k) v ≡ greater a (afterSum s (power a s k v))
 unfolding power
 power-more a best.None k v = rw (eqb·suc-zero k) (sym (greater-none a))
 power-more a (best.Sum z) zero v = power-some a z 0 v ∙ rw (zero-*ℤ (positive z), plus-zero a, one-more 0 z, zero-*ℤ z, +ℤ-idr z)
@@ -222,7 +222,7 @@ unfolding laps
 power-is l q n zero v = power-none (chain l q n best.None) (wholeSum l q n) v
 power-is l q n (suc k) v =
     power-more (chain l q n best.None) (wholeSum l q n) k v
-    ∙ ap (λ w. greater (chain l q n best.None) (after (wholeSum l q n) w)) (power-is l q n k v)
+    ∙ ap (λ w. greater (chain l q n best.None) (afterSum (wholeSum l q n) w)) (power-is l q n k v)
     ∙ sym (chain-is l q n (laps l q n k v))
 
 -- one round more never hurts, or never helps
@@ -243,7 +243,7 @@ laps-one-way l q n v b p m = ⊎-elim
 
 -- ---- rounds without end
 
-limit-round : (a s : Best) → greater a (after s (limit a s)) ≡ limit a s
+limit-round : (a s : Best) → greater a (afterSum s (limit a s)) ≡ limit a s
 unfolding limit greater
 limit-round a best.None = greater-none a
 limit-round best.None (best.Sum z) = refl

@@ -19,7 +19,7 @@ use Rattle.items.specs.Lists.{Items}
 use Rattle.rules.specs.Rules.{markAt, Closed}
 use Rattle.meaning.specs.Run.{Moment, Spot, Step, here, stretch, goesAgain, next, spot}
 use Rattle.meaning_laws.specs.Facts.{Laid}
-use Rattle.meaning_laws.specs.Counting.{total, Gets, splice}
+use Rattle.meaning_laws.specs.Counting.{totalWeight, Gets, splice}
 use Rattle.meaning_laws.specs.Walk.{spotAt, next-on, next-back, next-out}
 use Rattle.meaning_laws.specs.Stays.{in-plan}
 use Rattle.meaning_laws.specs.Between.{is-later, one-way}
@@ -44,7 +44,7 @@ record BestTo (l : ℕ → Label) (f : ℕ) (m : Moment) (v : Best) : Type 0 whe
 
 -- one moment back: a goal now, or held now and got from the next moment on
 best-step : (l : ℕ → Label) {f f′ : ℕ} {m : Moment} {v : Best} → f′ ≤ suc f → BestTo l f (suc m) v → BestTo l f′ m (step (l m) v)
-unfolding total splice
+unfolding totalWeight splice
 best-step l {m = m} {v = v} fewer t =
     let w = l m .weight in
     record {
@@ -196,14 +196,14 @@ module _ (x : Items) (laid : Laid (x .places)) (closed : Closed x) (l : ℕ → 
   -- ---- the best sums of `front`
 
   -- y has the best sums at step o of the stretch that place q begins, in its first round and in its last
-  record Fits (q o : ℕ) (y : Front) : Type 0 where
+  record HasBest (q o : ℕ) (y : Front) : Type 0 where
     after : Best
     next : (f : ℕ) → BestAt f (spotAt (q + n q) 0 0) after
     first : (f : ℕ) → BestAt f (spotAt q o 0) (y .first)
     last : (f : ℕ) → BestAt f (spotAt q o (repeats (k q))) (y .last)
 
   -- on in the stretch
-  fits-on : {q p o : ℕ} {y : Front} → q + o ≡ p → o + 1 < n q → Fits q (o + 1) y → Fits q o (record { first = step (l p) (y .first); last = step (l p) (y .last) })
+  fits-on : {q p o : ℕ} {y : Front} → q + o ≡ p → o + 1 < n q → HasBest q (o + 1) y → HasBest q o (record { first = step (l p) (y .first); last = step (l p) (y .last) })
   fits-on {q} e h t =
       record {
         after = t .after;
@@ -213,11 +213,11 @@ module _ (x : Items) (laid : Laid (x .places)) (closed : Closed x) (l : ℕ → 
       }
 
   -- from its last place
-  fits-out : {q p o : ℕ} {y : Front} → q + o ≡ p → o + 1 ≡ n q → Fits (suc p) 0 y →
+  fits-out : {q p o : ℕ} {y : Front} → q + o ≡ p → o + 1 ≡ n q → HasBest (suc p) 0 y →
       let a = chain l q (n q) best.None in
       let s = wholeSum l q (n q) in
       let i = roundsOf (k q) in
-      Fits q o (record { first = step (l p) (onFirst i a s (y .first)); last = step (l p) (onLast i a s (y .first)) })
+      HasBest q o (record { first = step (l p) (onFirst i a s (y .first)); last = step (l p) (onLast i a s (y .first)) })
   fits-out {q} {p} {y = y} e h t =
       record {
         after = y .first;
@@ -229,7 +229,7 @@ module _ (x : Items) (laid : Laid (x .places)) (closed : Closed x) (l : ℕ → 
       out : (f : ℕ) → BestAt f (spotAt (q + n q) 0 0) (y .first)
       out = let c : q + n q ≡ suc p = omega arith in rw c (t .first)
 
-  fits : (d p o : ℕ) → firstOf ps p + o ≡ p → p + d ≡ length ps → Fits (firstOf ps p) o (front l ps p d)
+  fits : (d p o : ℕ) → firstOf ps p + o ≡ p → p + d ≡ length ps → HasBest (firstOf ps p) o (front l ps p d)
   unfolding front
   fits zero p o e c =
       record {
@@ -240,7 +240,7 @@ module _ (x : Items) (laid : Laid (x .places)) (closed : Closed x) (l : ℕ → 
       }
   fits (suc d) p o e c =
       let end = firstOf ps p + n (firstOf ps p) in
-      cond-by (Fits (firstOf ps p) o) (isLast ps p)
+      cond-by (HasBest (firstOf ps p) o) (isLast ps p)
       (λ a.
       let h = leb-true end (suc p) a in
       let i = first-out ps p h in
@@ -273,7 +273,7 @@ module _ (x : Items) (laid : Laid (x .places)) (closed : Closed x) (l : ℕ → 
             let c : spot ps m .step ≡ o = omega arith in
             ap₂ (λ i j. spotAt i j (spot ps m .round)) a c ∙ ap (spotAt q o) d
 
-    module _ {y : Front} (t : Fits q o y) where
+    module _ {y : Front} (t : HasBest q o y) where
       in-round : (r : ℕ) → In (roundsOf (k q)) r → (m : Moment) → here (spot ps m) ≡ p → spot ps m .round ≡ r →
           (isReached z (chain l p (suc j) (pastBest q (roundsOf (k q)) r (t .after))) ≡ true) ↔ Gets labels z m
       in-round r i = tells r (λ f. rest-best q {f = f} (omega arith) (past-best q (t .next) (k q) refl r i) j p o

@@ -17,7 +17,7 @@ use Rattle.verdict.specs.Verdict.{firstNot, passes, refNumber}
 use Rattle.tables.specs.declared.Tables.{Tables}
 use Rattle.tables.specs.Tables.{firstsOf}
 use Rattle.guards.specs.declared.Search.the-variants.{At}
-use Rattle.marks.specs.Known.{first-within, base-is, drift-is}
+use Rattle.tables.specs.Known.{first-within, base-is, drift-is}
 use Rattle.guards.specs.Found.{found-end}
 use Rattle.judge.specs.Told.{toldTest, isNamed}
 use Rattle.judge.specs.Laws.{fails, found-here, found-later, each}

@@ -20,7 +20,8 @@ use Rattle.tables.specs.declared.Tables.{Tables}
 use Rattle.guards.specs.GuardSums.{Known}
 use Rattle.marks.specs.Wrong.{isRight, wrongIn}
 use Rattle.marks.specs.Search.{offFrom, off-start, off-here, off-later, off-end}
-use Rattle.marks.specs.Known.{first-within, rounds-are, base-is, drift-is, right-is}
+use Rattle.tables.specs.Known.{first-within, rounds-are, base-is, drift-is}
+use Rattle.marks.specs.Known.{right-is}
 use Rattle.marks.specs.SentenceSums.{guard-fits, guard-is}
 use Rattle.marks.proofs.guard_wrong.Statement.{statement}
 use Rattle.marks.proofs.guard_wrong.Tie as tie

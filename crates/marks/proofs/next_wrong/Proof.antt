@@ -19,7 +19,8 @@ use Rattle.tables.specs.Reads.{at-places}
 use Rattle.marks.specs.Wrong.{isRight}
 use Rattle.marks.specs.Search.{offFrom, off-start, down-start, down-off, down-on}
 use Rattle.marks.specs.Bits.{unmarked}
-use Rattle.marks.specs.Known.{first-within, end-within, next-is, right-is}
+use Rattle.tables.specs.Known.{first-within, end-within}
+use Rattle.marks.specs.Known.{next-is, right-is}
 use Rattle.marks.proofs.next_wrong.Statement.{statement}
 use Rattle.marks.proofs.next_wrong.Tie as tie
 
