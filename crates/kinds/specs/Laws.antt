@@ -96,6 +96,14 @@ count-by f Move = refl
 count-by f Sentence = refl
 count-by f Place = refl
 
+-- counts by f for kind k and by g for the others
+module _ (f g : Kind → ℕ) (k : Kind) where
+  pub count-own : countOf (countsBy (λ j. cond (same k j) (f j) (g j))) k ≡ f k
+  count-own = count-by (λ j. cond (same k j) (f j) (g j)) k ∙ ap (λ t. cond t (f k) (g k)) (same-self k)
+
+  pub count-rest : (j : Kind) → same k j ≡ false → countOf (countsBy (λ j. cond (same k j) (f j) (g j))) j ≡ g j
+  count-rest j e = count-by (λ j. cond (same k j) (f j) (g j)) j ∙ ap (λ t. cond t (f j) (g j)) e
+
 -- counts that are the same kind by kind are the same
 pub counts-same : {n m : Counts} → ((k : Kind) → countOf n k ≡ countOf m k) → n ≡ m
 counts-same f = λ i. countsBy (λ k. f k i)

@@ -18,7 +18,7 @@ use Rattle.kinds.specs.declared.Kind.{Kind}
 use Rattle.kinds.specs.declared.Kind.the-variants.{Place}
 use Rattle.kinds.specs.declared.Counts.{Counts}
 use Rattle.kinds.specs.Kinds.{kinds, countOf, overKinds, countsTotal, same, letterOf, rankOf}
-use Rattle.kinds.specs.Laws.{same-self, by-kind, count-by, counts-same}
+use Rattle.kinds.specs.Laws.{same-self, by-kind, count-own, count-rest, counts-same}
 use Rattle.kinds.specs.Last.{lastRank}
 use Rattle.kinds.specs.Table.{shapeOf, natural, isNumber, isBlank}
 use Rattle.items.specs.Items.{Item, itemOf, placeOf}
@@ -58,14 +58,11 @@ module _ (k : Kind) (f : (j : Kind) → List (Item j) → List (Item j)) (x : It
   changed-other j e = list-by lists j ∙ ap (λ t. cond t (f j (listOf j x)) (listOf j x)) e
 
 module _ (n : Counts) (k : Kind) where
-  abbrev moreOf : Kind → ℕ
-  moreOf j = cond (same k j) (countOf n j + 1) (countOf n j)
-
   pub count-more : countOf (oneMore n k) k ≡ countOf n k + 1
-  count-more = count-by moreOf k ∙ ap (λ t. cond t (countOf n k + 1) (countOf n k)) (same-self k)
+  count-more = count-own (λ j. countOf n j + 1) (countOf n) k
 
   pub count-other : (j : Kind) → same k j ≡ false → countOf (oneMore n k) j ≡ countOf n j
-  count-other j e = count-by moreOf j ∙ ap (λ t. cond t (countOf n j + 1) (countOf n j)) e
+  count-other = count-rest (λ j. countOf n j + 1) (countOf n) k
 
 -- ---- the case that holds given items
 

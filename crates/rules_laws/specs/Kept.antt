@@ -22,7 +22,7 @@ use Rattle.kinds.specs.declared.Kind.the-variants as kind
 use Rattle.kinds.specs.declared.Counts.{Counts}
 use Rattle.kinds.specs.declared.Sort.the-variants as sort
 use Rattle.kinds.specs.Kinds.{countOf, same}
-use Rattle.kinds.specs.Laws.{same-is, same-self, by-kind, count-by}
+use Rattle.kinds.specs.Laws.{same-is, by-kind, count-own, count-rest}
 use Rattle.kinds.specs.Table.{natural, isNumber, isBlank, neededIf, inFilled, ruleAt, shapeOf}
 use Rattle.items.specs.declared.Ref.{Ref}
 use Rattle.items.specs.declared.Ref.the-variants as ref
@@ -54,23 +54,17 @@ more : (n : Counts) (k : Kind) → AtMost n (oneMore n k)
 more n k =
     by-kind (λ j. countOf n j ≤ countOf (oneMore n k) j) k (omega (arith, count-more n k)) (λ j e. omega (arith, count-other n k j e))
 
--- what an item reaches: of its own kind what comes before it, else all; it grows with what is held, and the next item reaches all that is held
-module _ (n : Counts) (k : Kind) (i : ℕ) where
-  reach-own : countOf (reach n k i) k ≡ i
-  reach-own = count-by (λ j. cond (same k j) i (countOf n j)) k ∙ ap (λ t. cond t i (countOf n k)) (same-self k)
-
-  reach-other : (j : Kind) → same k j ≡ false → countOf (reach n k i) j ≡ countOf n j
-  reach-other j e = count-by (λ j. cond (same k j) i (countOf n j)) j ∙ ap (λ t. cond t i (countOf n j)) e
-
+-- what an item reaches grows with what is held, and the next item reaches all that is held
 reaches : {n m : Counts} → AtMost n m → (k : Kind) (i : ℕ) → AtMost (reach n k i) (reach m k i)
 reaches {n} {m} a k i =
-    by-kind (λ j. countOf (reach n k i) j ≤ countOf (reach m k i) j) k (omega (arith, reach-own n k i, reach-own m k i))
-    (λ j e. omega (arith, reach-other n k i j e, reach-other m k i j e, a j))
+    by-kind (λ j. countOf (reach n k i) j ≤ countOf (reach m k i) j) k (omega (arith, count-own (λ j. i) (countOf n) k, count-own (λ j. i) (countOf m) k))
+    (λ j e. omega (arith, count-rest (λ j. i) (countOf n) k j e, count-rest (λ j. i) (countOf m) k j e, a j))
 
 reaches-held : (n : Counts) (k : Kind) → AtMost n (reach (oneMore n k) k (countOf n k))
 reaches-held n k =
-    by-kind (λ j. countOf n j ≤ countOf (reach (oneMore n k) k (countOf n k)) j) k (omega (arith, reach-own (oneMore n k) k (countOf n k)))
-    (λ j e. omega (arith, reach-other (oneMore n k) k (countOf n k) j e, count-other n k j e))
+    let i : Kind → ℕ = λ j. countOf n k in
+    by-kind (λ j. countOf n j ≤ countOf (reach (oneMore n k) k (countOf n k)) j) k (omega (arith, count-own i (countOf (oneMore n k)) k))
+    (λ j e. omega (arith, count-rest i (countOf (oneMore n k)) k j e, count-other n k j e))
 
 there-more : {n m : Counts} → AtMost n m → (k : Kind) (r : List Field) → There n k r → There m k r
 there-more {n} {m} a k r t f (z, d, h) =

@@ -84,7 +84,7 @@ module _ (c : tie.After-is-right Inv-loop μ-loop) where
   inside = omega (arith, held (l .before))
 
 add-p : tie.Need-add-p Inv-loop μ-loop
-add-p c = omega arith
+add-p c = omega (arith, l (c .before) .before .pre .room kind.Place)
 
 loop-less : tie.Need-loop-less Inv-loop μ-loop
 loop-less c = omega arith
