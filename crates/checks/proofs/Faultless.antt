@@ -13,13 +13,15 @@ use Rattle.record.specs.Layout.{fields, at}
 use Rattle.kinds.specs.declared.Counts.{Counts}
 use Rattle.kinds.specs.declared.Kind.the-variants.{Sentence}
 use Rattle.kinds.specs.declared.Sort.{Sort}
-use Rattle.kinds.specs.declared.Sort.the-variants as sort
+use Rattle.kinds.specs.declared.Sort.the-variants.{Within, Marks, Reference}
+use Rattle.kinds.specs.Sorts as sort
 use Rattle.kinds.specs.declared.Rule.{Rule}
 use Rattle.kinds.specs.declared.Rule.the-variants.{Blank, Needed, Optional}
 use Rattle.kinds.specs.declared.Shape.{Shape}
 use Rattle.kinds.specs.Kinds.{same}
 use Rattle.kinds.specs.Laws.{same-is}
-use Rattle.kinds.specs.Table.{ruleAt, rulesOf, counters, inFilled, rangeOf, isNumber}
+use Rattle.kinds.specs.Sorts.{rangeOf}
+use Rattle.kinds.specs.Table.{ruleAt, rulesOf, counters, inFilled, isNumber}
 use Rattle.checks.specs.declared.Fault.{Fault}
 use Rattle.checks.specs.declared.Fault.the-variants as fault
 use Rattle.answers.specs.declared.Answer.the-variants.{Taken}
@@ -43,16 +45,9 @@ Clear n q c = None (misspelled c) (missing q c) (extra q c) (outside q c) (notTh
 
 -- a field that is blank refers to nothing
 blank-there : (n : Counts) (s : Sort) → dangling n s content.Blank ≡ false
-blank-there n (sort.Reference k) = refl
-blank-there n sort.Marks = refl
-blank-there n sort.Propositions = refl
-blank-there n sort.Coefficient = refl
-blank-there n sort.Bound = refl
-blank-there n sort.Update = refl
-blank-there n sort.Form = refl
-blank-there n sort.Proposition = refl
-blank-there n sort.LoopLength = refl
-blank-there n sort.Rounds = refl
+blank-there n (Reference k) = refl
+blank-there n Marks = refl
+blank-there n (Within r) = refl
 
 module _ (n : Counts) where
   good-parts : (s : Sort) (c : Content) → good n s c ≡ true → (beyond (rangeOf s) c ≡ false) × ((dangling n s c ≡ false) × (isNumber c ≡ true))

@@ -12,12 +12,13 @@ use Rattle.record.specs.Layout.{fields, at}
 use Rattle.kinds.specs.declared.Counts.{Counts}
 use Rattle.kinds.specs.declared.Range.{Range}
 use Rattle.kinds.specs.declared.Sort.{Sort}
-use Rattle.kinds.specs.declared.Sort.the-variants as sort
+use Rattle.kinds.specs.declared.Sort.the-variants.{Within, Marks, Reference}
 use Rattle.kinds.specs.declared.Rule.{Rule}
 use Rattle.kinds.specs.declared.Rule.the-variants.{Blank, Needed, Optional}
 use Rattle.kinds.specs.declared.Shape.{Shape}
 use Rattle.kinds.specs.Kinds.{countOf}
-use Rattle.kinds.specs.Table.{rangeOf, isBlank, isNumber, ruleAt}
+use Rattle.kinds.specs.Sorts.{rangeOf}
+use Rattle.kinds.specs.Table.{isBlank, isNumber, ruleAt}
 use Rattle.checks.specs.declared.Fault.{Fault}
 use Rattle.checks.specs.declared.Fault.the-variants as fault
 
@@ -59,16 +60,9 @@ atLeast m content.Bad = false
 
 -- a reference to an item that is not there, or a set with a mark at or above the number of sentences
 abbrev pub dangling : Counts → Sort → Content → Bool
-dangling n (sort.Reference k) c = atLeast (countOf n k) c
-dangling n sort.Marks c = atLeast (2 ^ n .sentences) c
-dangling n sort.Propositions c = false
-dangling n sort.Coefficient c = false
-dangling n sort.Bound c = false
-dangling n sort.Update c = false
-dangling n sort.Form c = false
-dangling n sort.Proposition c = false
-dangling n sort.LoopLength c = false
-dangling n sort.Rounds c = false
+dangling n (Reference k) c = atLeast (countOf n k) c
+dangling n Marks c = atLeast (2 ^ n .sentences) c
+dangling n (Within r) c = false
 
 -- a number whose rule says that it refers to something, and it is not there
 abbrev pub notThere : Counts → Rule → Content → Bool

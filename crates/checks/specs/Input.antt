@@ -10,7 +10,7 @@ use Rattle.kinds.specs.declared.Kind.the-variants.{Sentence}
 use Rattle.kinds.specs.declared.Letter.{Letter}
 use Rattle.kinds.specs.declared.Letter.the-variants.{Names, Unknown}
 use Rattle.kinds.specs.declared.Rule.the-variants as rule
-use Rattle.kinds.specs.declared.Sort.the-variants as sort
+use Rattle.kinds.specs.Sorts as sort
 use Rattle.kinds.specs.declared.Shape.{Shape}
 use Rattle.kinds.specs.Kinds.{kindOf, same}
 use Rattle.answers.specs.declared.Answer.{Answer}

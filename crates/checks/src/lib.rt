@@ -135,14 +135,7 @@ fn is_dangling(counts: Counts, sort: Sort, content: Content) -> bool
     match sort {
         Sort::Reference(kind) => is_at_least(counts.of(kind), content),
         Sort::Marks => has_bit_from(counts.sentences, content),
-        Sort::Propositions => false,
-        Sort::Coefficient => false,
-        Sort::Bound => false,
-        Sort::Update => false,
-        Sort::Form => false,
-        Sort::Proposition => false,
-        Sort::LoopLength => false,
-        Sort::Rounds => false,
+        Sort::Within(_) => false,
     }
 }
 
@@ -196,7 +189,7 @@ fn has_wrong_form(shape: Shape, row: Record) -> bool
     let first = fields[0];
     let content = first.content;
     if kind.is(Kind::Sentence) {
-        is_outside(Rule::Needed(Sort::Form), content)
+        is_outside(Rule::Needed(Sort::FORM), content)
     } else {
         false
     }

@@ -66,11 +66,11 @@ every t e k = holds-all t e (kind-has (letterOf k) k kinds (named k))
 -- ---- ranks
 
 pub kind-at : (k : Kind) → kindAt (rankOf k) ≡ k
-unfolding allOf lowest
+unfolding allOf
 kind-at k = same-is (kindAt (rankOf k)) k (every (λ j. same (kindAt (rankOf j)) j) refl k)
 
 rank-below : (k : Kind) → rankOf k < length kinds
-unfolding allOf lowest
+unfolding allOf
 rank-below k = ltb-true (rankOf k) (length kinds) (every (λ j. ltb (rankOf j) (length kinds)) refl k)
 
 rank-at : (r : ℕ) → r < length kinds → rankOf (kindAt r) ≡ r

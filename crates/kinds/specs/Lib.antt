@@ -1,4 +1,5 @@
 pub mod Kinds
+pub mod Sorts
 pub mod Table
 pub mod Last
 pub mod Laws

@@ -4,7 +4,7 @@ use mathlib.Core.List.{List, [], _∷_, _++_}
 use mathlib.Core.Bool.{Bool, true, false, _||_}
 use Prim.Native.Nat.{ℕ, _+_}
 use lib.Dec.{eqb}
-use lib.IntN.{ℤ, pos, negsuc, negℤ}
+use lib.IntN.{pos, negsuc}
 use lib.ListN.{replicate, getD}
 use Rattle.laws.specs.Lists.{nth}
 use Rattle.laws.specs.Tab.{tab}
@@ -15,11 +15,11 @@ use Rattle.record.specs.Layout.{fields, at}
 use Rattle.kinds.specs.declared.Kind.{Kind}
 use Rattle.kinds.specs.declared.Kind.the-variants.{State, Guard, Move, Sentence, Place}
 use Rattle.kinds.specs.declared.Sort.{Sort}
-use Rattle.kinds.specs.declared.Sort.the-variants.{Propositions, Coefficient, Bound, Update, Form, Proposition, Marks, LoopLength, Rounds, Reference}
+use Rattle.kinds.specs.declared.Sort.the-variants.{Marks, Reference}
+use Rattle.kinds.specs.Sorts.{Propositions, Coefficient, Bound, Update, Form, Proposition, LoopLength, Rounds}
 use Rattle.kinds.specs.declared.Rule.{Rule}
 use Rattle.kinds.specs.declared.Rule.the-variants as rule
 use Rattle.kinds.specs.declared.Rule.the-variants.{Needed, Optional}
-use Rattle.kinds.specs.declared.Range.{Range}
 use Rattle.kinds.specs.declared.Filled.{Filled}
 use Rattle.kinds.specs.declared.Shape.{Shape}
 
@@ -96,23 +96,6 @@ rulesOf n Guard f x = guardRow n
 rulesOf n Move f x = moveRow n x
 rulesOf n Sentence f x = sentenceRow f x
 rulesOf n Place f x = placeRow x
-
--- the numbers from low to high
-abbrev pub fromTo : ℤ → ℤ → Range
-fromTo low high = record { low = low; high = high }
-
--- the numbers that a field of each sort allows; a bound may be any number that a field can spell
-abbrev pub rangeOf : Sort → Range
-rangeOf Propositions = fromTo (pos 0) (pos 65535)
-rangeOf Coefficient = fromTo (negℤ (pos 999)) (pos 999)
-rangeOf Bound = fromTo (negℤ (pos 999999)) (pos 9999999)
-rangeOf Update = fromTo (negℤ (pos 9999)) (pos 9999)
-rangeOf Form = fromTo (pos 0) (pos 6)
-rangeOf Proposition = fromTo (pos 0) (pos 15)
-rangeOf Marks = fromTo (pos 0) (pos 1048575)
-rangeOf LoopLength = fromTo (pos 1) (pos 64)
-rangeOf Rounds = fromTo (pos 1) (pos 1000000)
-rangeOf (Reference k) = fromTo (pos 0) (pos 63)
 
 -- whether a field is blank
 abbrev pub isBlank : Content → Bool

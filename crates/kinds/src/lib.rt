@@ -7,10 +7,10 @@ ghost use lib.Dec.{ltb};
 ghost use lib.ListN.{replicate};
 ghost use Rattle.laws.specs.Lists.{nth};
 ghost use Rattle.kinds.specs.declared.Rule.the-variants as rule;
-ghost use Rattle.kinds.specs.declared.Sort.the-variants.{Form};
+ghost use Rattle.kinds.specs.Sorts.{Form, rangeOf};
 ghost use Rattle.kinds.specs.Kinds.{kindOf, rankOf, same, countOf, countsBy, countsTotal};
 ghost use Rattle.kinds.specs.Last.{lastRank};
-ghost use Rattle.kinds.specs.Table.{neededIf, rangeOf, flagOf, isNumber, natural, shapeOf, ruleAt, stateRow, guardRow, moveRow, sentenceRow, placeRow, counters, inFilled};
+ghost use Rattle.kinds.specs.Table.{neededIf, flagOf, isNumber, natural, shapeOf, ruleAt, stateRow, guardRow, moveRow, sentenceRow, placeRow, counters, inFilled};
 use record::Content;
 use record::Record;
 
@@ -29,17 +29,10 @@ pub enum Letter {
     Unknown,
 }
 
-// What the number in a field is.
+// What the number in a field is: one within a range, a set of marks, or a reference to an item.
 pub enum Sort {
-    Propositions,
-    Coefficient,
-    Bound,
-    Update,
-    Form,
-    Proposition,
+    Within(Range),
     Marks,
-    LoopLength,
-    Rounds,
     Reference(Kind),
 }
 
@@ -54,6 +47,40 @@ pub enum Rule {
 pub struct Range {
     pub low: i32,
     pub high: i32,
+}
+
+impl Sort {
+    // The sorts that are within a range of their own.
+    pub const PROPOSITIONS: Sort = Sort::Within(Range {
+        low: 0,
+        high: 65535,
+    });
+
+    pub const COEFFICIENT: Sort = Sort::Within(Range {
+        low: -999,
+        high: 999,
+    });
+
+    pub const BOUND: Sort = Sort::Within(Range {
+        low: -999999,
+        high: 9999999,
+    });
+
+    pub const UPDATE: Sort = Sort::Within(Range {
+        low: -9999,
+        high: 9999,
+    });
+
+    pub const FORM: Sort = Sort::Within(Range { low: 0, high: 6 });
+
+    pub const PROPOSITION: Sort = Sort::Within(Range { low: 0, high: 15 });
+
+    pub const LOOP_LENGTH: Sort = Sort::Within(Range { low: 1, high: 64 });
+
+    pub const ROUNDS: Sort = Sort::Within(Range {
+        low: 1,
+        high: 1000000,
+    });
 }
 
 // Which fields are filled: 1 for a field that is, 0 for any other. (Eight bools would be packed into one word, which costs more.)
@@ -182,15 +209,8 @@ pub fn range_of(sort: Sort) -> Range
     ensures { λ r. ⌜ r ≡ rangeOf sort ⌝ }
 {
     match sort {
-        Sort::Propositions => between(0, 65535),
-        Sort::Coefficient => between(-999, 999),
-        Sort::Bound => between(-999999, 9999999),
-        Sort::Update => between(-9999, 9999),
-        Sort::Form => between(0, 6),
-        Sort::Proposition => between(0, 15),
+        Sort::Within(range) => range,
         Sort::Marks => between(0, 1048575),
-        Sort::LoopLength => between(1, 64),
-        Sort::Rounds => between(1, 1000000),
         Sort::Reference(_) => between(0, 63),
     }
 }
@@ -281,7 +301,7 @@ fn state_rule(k: usize) -> Rule
     ensures { λ r. ⌜ r ≡ nth stateRow k rule.Blank ⌝ }
 {
     if k == 1 {
-        Rule::Needed(Sort::Propositions)
+        Rule::Needed(Sort::PROPOSITIONS)
     } else {
         Rule::Blank
     }
@@ -293,10 +313,10 @@ fn guard_rule(k: usize) -> Rule
     ensures { λ r. ⌜ r ≡ nth (guardRow counters) k rule.Blank ⌝ }
 {
     if k <= PerCounter::COUNT {
-        return Rule::Needed(Sort::Coefficient);
+        return Rule::Needed(Sort::COEFFICIENT);
     }
     if k == 1 + PerCounter::COUNT {
-        return Rule::Needed(Sort::Bound);
+        return Rule::Needed(Sort::BOUND);
     }
     Rule::Blank
 }
@@ -311,7 +331,7 @@ fn move_rule(filled: Filled, k: usize) -> Rule
         return Rule::Needed(Sort::Reference(Kind::State));
     }
     if k <= 2 + PerCounter::COUNT {
-        return Rule::Needed(Sort::Update);
+        return Rule::Needed(Sort::UPDATE);
     }
     if k == 3 + PerCounter::COUNT {
         return needed_if(
@@ -331,7 +351,7 @@ fn parts_rule(last: usize, sort: Sort, k: usize) -> Rule
     ensures { λ r. ⌜ r ≡ nth (rule.Needed Form ∷ replicate (last - 1) (rule.Needed sort)) k rule.Blank ⌝ }
 {
     if k == 1 {
-        return Rule::Needed(Sort::Form);
+        return Rule::Needed(Sort::FORM);
     }
     if k <= last {
         return Rule::Needed(sort);
@@ -346,16 +366,16 @@ fn until_rule(filled: Filled, k: usize) -> Rule
 {
     let x = filled.at;
     match k {
-        4 => Rule::Needed(Sort::Bound),
+        4 => Rule::Needed(Sort::BOUND),
         5 => needed_if(
             any(x[6 - 1] == 1, any(x[7 - 1] == 1, x[8 - 1] == 1)),
-            Sort::Coefficient,
+            Sort::COEFFICIENT,
         ),
         6 => needed_if(
             any(x[5 - 1] == 1, any(x[7 - 1] == 1, x[8 - 1] == 1)),
             Sort::Reference(Kind::Sentence),
         ),
-        7 => needed_if(x[8 - 1] == 1, Sort::Coefficient),
+        7 => needed_if(x[8 - 1] == 1, Sort::COEFFICIENT),
         8 => needed_if(x[7 - 1] == 1, Sort::Reference(Kind::Sentence)),
         _ => parts_rule(3, Sort::Reference(Kind::Sentence), k),
     }
@@ -367,13 +387,13 @@ fn sentence_rule(form: u32, filled: Filled, k: usize) -> Rule
     ensures { λ r. ⌜ r ≡ nth (sentenceRow form (inFilled filled)) k rule.Blank ⌝ }
 {
     match form {
-        1 => parts_rule(2, Sort::Proposition, k),
+        1 => parts_rule(2, Sort::PROPOSITION, k),
         2 => parts_rule(2, Sort::Reference(Kind::Guard), k),
         3 => parts_rule(3, Sort::Reference(Kind::Sentence), k),
         4 => parts_rule(2, Sort::Reference(Kind::Sentence), k),
         5 => parts_rule(2, Sort::Reference(Kind::Sentence), k),
         6 => until_rule(filled, k),
-        _ => parts_rule(1, Sort::Form, k),
+        _ => parts_rule(1, Sort::FORM, k),
     }
 }
 
@@ -387,8 +407,8 @@ fn place_rule(filled: Filled, k: usize) -> Rule
         1 => Rule::Needed(Sort::Reference(Kind::State)),
         2 => Rule::Optional(Sort::Reference(Kind::Move)),
         3 => Rule::Needed(Sort::Marks),
-        4 => needed_if(any(x[5 - 1] == 1, x[6 - 1] == 1), Sort::LoopLength),
-        5 => Rule::Optional(Sort::Rounds),
+        4 => needed_if(any(x[5 - 1] == 1, x[6 - 1] == 1), Sort::LOOP_LENGTH),
+        5 => Rule::Optional(Sort::ROUNDS),
         6 => needed_if(x[4 - 1] == 1, Sort::Reference(Kind::Move)),
         _ => Rule::Blank,
     }

@@ -24,11 +24,13 @@ use Rattle.kinds.specs.declared.Kind.{Kind}
 use Rattle.kinds.specs.declared.Kind.the-variants as kind
 use Rattle.kinds.specs.declared.Counts.{Counts}
 use Rattle.kinds.specs.declared.Sort.{Sort}
-use Rattle.kinds.specs.declared.Sort.the-variants as sort
+use Rattle.kinds.specs.declared.Sort.the-variants.{Reference}
+use Rattle.kinds.specs.Sorts as sort
 use Rattle.kinds.specs.declared.Rule.{Rule}
 use Rattle.kinds.specs.declared.Rule.the-variants as rule
 use Rattle.kinds.specs.Kinds.{countOf}
-use Rattle.kinds.specs.Table.{counters, rangeOf, fromTo, isNumber, neededIf, guardRow, moveRow, inFilled, ruleAt, shapeOf}
+use Rattle.kinds.specs.Sorts.{rangeOf, fromTo}
+use Rattle.kinds.specs.Table.{counters, isNumber, neededIf, guardRow, moveRow, inFilled, ruleAt, shapeOf}
 use Rattle.items.specs.declared.Ref.{Ref}
 use Rattle.items.specs.declared.Ref.the-variants as ref
 use Rattle.items.specs.declared.Term.{Term}
@@ -103,7 +105,7 @@ names n ref.None e = none
 names n (ref.At t) e = also (leb-false n t e) none
 
 -- needed or not
-either : (n : Counts) (b : Bool) (k : Kind) (c : Content) → notThere n (neededIf b (sort.Reference k)) c ≡ false → atLeast (countOf n k) c ≡ false
+either : (n : Counts) (b : Bool) (k : Kind) (c : Content) → notThere n (neededIf b (Reference k)) c ≡ false → atLeast (countOf n k) c ≡ false
 either n true k c e = e
 either n false k c e = e
 

@@ -21,11 +21,13 @@ use Rattle.record.specs.Layout.{fields, at}
 use Rattle.kinds.specs.declared.Kind.{Kind}
 use Rattle.kinds.specs.declared.Kind.the-variants as kind
 use Rattle.kinds.specs.declared.Sort.{Sort}
-use Rattle.kinds.specs.declared.Sort.the-variants as sort
+use Rattle.kinds.specs.declared.Sort.the-variants.{Marks, Reference}
+use Rattle.kinds.specs.Sorts as sort
 use Rattle.kinds.specs.declared.Rule.{Rule}
 use Rattle.kinds.specs.declared.Rule.the-variants as rule
 use Rattle.kinds.specs.Table as table
-use Rattle.kinds.specs.Table.{counters, natural, isNumber, rangeOf, neededIf, inFilled, shapeOf, ruleAt}
+use Rattle.kinds.specs.Sorts.{rangeOf}
+use Rattle.kinds.specs.Table.{counters, natural, isNumber, neededIf, inFilled, shapeOf, ruleAt}
 use Rattle.items.specs.Items.{itemOf, rowOf, byteOf, integerOf, shortOf, perCounter, refOf, termOf, markOf, stateOf, guardOf, moveOf, formOf, sentenceOf, placeOf, integer, number, blank, reference, termFields, markFields}
 use Rattle.checks.specs.Faults.{misspelled, missing, extra, outside, beyond}
 use Rattle.collector.specs.Sound.{shape, Fit}
@@ -132,12 +134,12 @@ module _ (s : Sort) where
 
 -- a reference to an item of kind k, needed or not
 module _ (k : Kind) where
-  item-again : (c : Content) → MeetsRule (rule.Needed (sort.Reference k)) c → number (byteOf c) ≡ field c
-  item-again = cut-again (sort.Reference k) 255 (refl, refl)
+  item-again : (c : Content) → MeetsRule (rule.Needed (Reference k)) c → number (byteOf c) ≡ field c
+  item-again = cut-again (Reference k) 255 (refl, refl)
 
-  reference-again : (b : Bool) (c : Content) → MeetsRule (neededIf b (sort.Reference k)) c → reference (refOf c) ≡ field c
+  reference-again : (b : Bool) (c : Content) → MeetsRule (neededIf b (Reference k)) c → reference (refOf c) ≡ field c
   reference-again b Blank m = refl
-  reference-again b (Number z) m = item-again (Number z) (needed b (sort.Reference k) z m)
+  reference-again b (Number z) m = item-again (Number z) (needed b (Reference k) z m)
   reference-again b Bad m = absurd (true≢false (m .spelled))
 
 -- a term: its coefficient and its sentence are both blank or both filled
@@ -145,7 +147,7 @@ term-again : (a b : Bool) (c e : Content)
     → (isNumber e ≡ true → a ≡ true)
     → (isNumber c ≡ true → b ≡ true)
     → MeetsRule (neededIf a sort.Coefficient) c
-    → MeetsRule (neededIf b (sort.Reference kind.Sentence)) e
+    → MeetsRule (neededIf b (Reference kind.Sentence)) e
     → termFields (termOf c e) ≡ field c ∷ field e ∷ []
 term-again a b Blank Blank p q m n = refl
 term-again a b Blank (Number z) p q m n = absurd (true≢false (rw (p refl) at m .full))
@@ -164,7 +166,7 @@ padded xs = xs ++ replicate (fields - length xs) blank
 mark-again : (x y z : Field) (c d e : Content)
     → MeetsRule (neededIf (isNumber d || isNumber e) sort.LoopLength) c
     → MeetsRule (rule.Optional sort.Rounds) d
-    → MeetsRule (neededIf (isNumber c) (sort.Reference kind.Move)) e
+    → MeetsRule (neededIf (isNumber c) (Reference kind.Move)) e
     → padded (x ∷ y ∷ z ∷ markFields (markOf c d e)) ≡ x ∷ y ∷ z ∷ field c ∷ field d ∷ field e ∷ replicate (fields - 6) blank
 unfolding markOf
 mark-again x y z Blank Blank Blank m n o = refl
@@ -223,7 +225,7 @@ module _ (g : ℕ → Content) where
   unfolding ruleAt shapeOf rowOf placeOf
   place-again c f =
       let p = reference-again kind.Move false (g 2) (met f 2) in
-      let q = natural-again sort.Marks 1048575 (refl, refl) (g 3) (met f 3) .0 in
+      let q = natural-again Marks 1048575 (refl, refl) (g 3) (met f 3) .0 in
       mark-again _ _ _ (g 4) (g 5) (g 6) (met f 4) (met f 5) (met f 6)
       ∙ (λ i.
       item-again kind.State c (met f 1) i ∷ p i ∷ q i ∷ field (g 4) ∷ field (g 5) ∷ field (g 6) ∷ rest-again f 6 (lit≤ tt) i)
@@ -239,7 +241,7 @@ module _ (g : ℕ → Content) where
   sentence-again Blank f = absurd (true≢false (met f 1 .full))
   sentence-again (Number (pos zero)) f = λ i. number 0 ∷ rest-again f 1 (lit≤ tt) i
   sentence-again (Number (pos (suc zero))) f = part-again sort.Proposition (refl, refl) 1 f (met f 2) (lit≤ tt)
-  sentence-again (Number (pos (suc (suc zero)))) f = part-again (sort.Reference kind.Guard) (refl, refl) 2 f (met f 2) (lit≤ tt)
+  sentence-again (Number (pos (suc (suc zero)))) f = part-again (Reference kind.Guard) (refl, refl) 2 f (met f 2) (lit≤ tt)
   sentence-again (Number (pos (suc (suc (suc zero))))) f =
       λ i.
       number 3
@@ -247,9 +249,9 @@ module _ (g : ℕ → Content) where
       ∷ item-again kind.Sentence (g 3) (met f 3) i
       ∷ rest-again f 3 (lit≤ tt) i
   sentence-again (Number (pos (suc (suc (suc (suc zero)))))) f =
-      part-again (sort.Reference kind.Sentence) (refl, refl) 4 f (met f 2) (lit≤ tt)
+      part-again (Reference kind.Sentence) (refl, refl) 4 f (met f 2) (lit≤ tt)
   sentence-again (Number (pos (suc (suc (suc (suc (suc zero))))))) f =
-      part-again (sort.Reference kind.Sentence) (refl, refl) 5 f (met f 2) (lit≤ tt)
+      part-again (Reference kind.Sentence) (refl, refl) 5 f (met f 2) (lit≤ tt)
   sentence-again (Number (pos (suc (suc (suc (suc (suc (suc zero)))))))) f =
       let a = isNumber (g 7) || isNumber (g 8) in
       let p = term-again (isNumber (g 6) || a) (isNumber (g 5) || a) (g 5) (g 6) (λ e. rw e) (λ e. rw e) (met f 5) (met f 6) in

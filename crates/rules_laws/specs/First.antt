@@ -15,7 +15,7 @@ use Rattle.kinds.specs.declared.Kind.{Kind}
 use Rattle.kinds.specs.declared.Kind.the-variants.{Sentence, Place}
 use Rattle.kinds.specs.declared.Shape.{Shape}
 use Rattle.kinds.specs.declared.Rule.the-variants.{Needed}
-use Rattle.kinds.specs.declared.Sort.the-variants.{Form}
+use Rattle.kinds.specs.Sorts.{Form}
 use Rattle.kinds.specs.Kinds.{letterOf, rankOf, same, countOf}
 use Rattle.kinds.specs.Last.{lastRank}
 use Rattle.kinds.specs.Laws.{one-kind, same-is, tells-last}

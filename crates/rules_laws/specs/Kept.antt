@@ -20,7 +20,7 @@ use Rattle.record.specs.Layout.{at, recordOf}
 use Rattle.kinds.specs.declared.Kind.{Kind}
 use Rattle.kinds.specs.declared.Kind.the-variants as kind
 use Rattle.kinds.specs.declared.Counts.{Counts}
-use Rattle.kinds.specs.declared.Sort.the-variants as sort
+use Rattle.kinds.specs.Sorts as sort
 use Rattle.kinds.specs.Kinds.{countOf, same}
 use Rattle.kinds.specs.Laws.{same-is, by-kind, count-own, count-rest}
 use Rattle.kinds.specs.Table.{natural, isNumber, isBlank, neededIf, inFilled, ruleAt, shapeOf}

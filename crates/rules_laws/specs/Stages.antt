@@ -22,7 +22,7 @@ use Rattle.kinds.specs.declared.Kind.the-variants.{Sentence}
 use Rattle.kinds.specs.declared.Rule.{Rule}
 use Rattle.kinds.specs.declared.Rule.the-variants as rule
 use Rattle.kinds.specs.declared.Rule.the-variants.{Needed}
-use Rattle.kinds.specs.declared.Sort.the-variants.{Form}
+use Rattle.kinds.specs.Sorts.{Form}
 use Rattle.kinds.specs.declared.Shape.{Shape}
 use Rattle.kinds.specs.Kinds.{same}
 use Rattle.kinds.specs.Laws.{by-kind, every}

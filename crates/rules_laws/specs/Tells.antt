@@ -21,12 +21,14 @@ use Rattle.kinds.specs.declared.Kind.{Kind}
 use Rattle.kinds.specs.declared.Kind.the-variants as kind
 use Rattle.kinds.specs.declared.Counts.{Counts}
 use Rattle.kinds.specs.declared.Sort.{Sort}
-use Rattle.kinds.specs.declared.Sort.the-variants as sort
+use Rattle.kinds.specs.declared.Sort.the-variants.{Within, Marks, Reference}
+use Rattle.kinds.specs.Sorts as sort
 use Rattle.kinds.specs.declared.Rule.{Rule}
 use Rattle.kinds.specs.declared.Rule.the-variants.{Blank, Needed, Optional}
 use Rattle.kinds.specs.Kinds.{letterOf, countOf, same}
 use Rattle.kinds.specs.Laws.{same-is}
-use Rattle.kinds.specs.Table.{isBlank, isNumber, rangeOf, shapeOf}
+use Rattle.kinds.specs.Sorts.{rangeOf}
+use Rattle.kinds.specs.Table.{isBlank, isNumber, shapeOf}
 use Rattle.checks.specs.Faults.{misspelled, missing, extra, beyond, outside, atLeast, dangling, notThere}
 use Rattle.checks.specs.Input.{wrongForm}
 use Rattle.rules.specs.Rules.{Allows, IsNumber, InRange, IsBad, IsMissing, IsExtra, IsOutside, IsNotThere, HasForm, ruleFor}
@@ -122,7 +124,7 @@ module _ (u : Rule) where
     Dangles v c =
         (m : ℕ)
         × (c ≡ content.Number (pos m))
-        × (((j : Kind) × Allows v (sort.Reference j) × (countOf n j ≤ m)) ⊎ (Allows v sort.Marks × (2 ^ n .sentences ≤ m)))
+        × (((j : Kind) × Allows v (Reference j) × (countOf n j ≤ m)) ⊎ (Allows v Marks × (2 ^ n .sentences ≤ m)))
 
     large : (k : ℕ) (c : Content) → atLeast k c ≡ true → (m : ℕ) × (c ≡ content.Number (pos m)) × (k ≤ m)
     large k content.Blank e = no e
@@ -131,16 +133,9 @@ module _ (u : Rule) where
     large k content.Bad e = no e
 
     refers : (v : Rule) (s : Sort) (c : Content) → Allows v s → dangling n s c ≡ true → Dangles v c
-    refers v (sort.Reference j) c a e = let (m, d, h) = large (countOf n j) c e in (m, d, inl (j, a, h))
-    refers v sort.Marks c a e = let (m, d, h) = large (2 ^ n .sentences) c e in (m, d, inr (a, h))
-    refers v sort.Propositions c a e = no e
-    refers v sort.Coefficient c a e = no e
-    refers v sort.Bound c a e = no e
-    refers v sort.Update c a e = no e
-    refers v sort.Form c a e = no e
-    refers v sort.Proposition c a e = no e
-    refers v sort.LoopLength c a e = no e
-    refers v sort.Rounds c a e = no e
+    refers v (Reference j) c a e = let (m, d, h) = large (countOf n j) c e in (m, d, inl (j, a, h))
+    refers v Marks c a e = let (m, d, h) = large (2 ^ n .sentences) c e in (m, d, inr (a, h))
+    refers v (Within r) c a e = no e
 
     dangles-is : (c : Content) → Tells (notThere n u c) (Dangles u c)
     dangles-is c = (

@@ -1,4 +1,4 @@
--- `checks::is_dangling` meets its contract. Assumes nothing.
+-- A reference against its kind's count, marks against the number of sentences. Assumes nothing.
 use borrow.Author.Needs.{needs}
 use Rattle.checks.proofs.is_dangling.Statement.{statement}
 use Rattle.checks.proofs.is_dangling.Tie as tie
@@ -21,27 +21,6 @@ has-bit-from-requires c κs = search needs
 enum-told-2 : tie.Need-enum-told-2
 enum-told-2 c = search needs
 
-enum-told-3 : tie.Need-enum-told-3
-enum-told-3 c = search needs
-
-enum-told-4 : tie.Need-enum-told-4
-enum-told-4 c = search needs
-
-enum-told-5 : tie.Need-enum-told-5
-enum-told-5 c = search needs
-
-enum-told-6 : tie.Need-enum-told-6
-enum-told-6 c = search needs
-
-enum-told-7 : tie.Need-enum-told-7
-enum-told-7 c = search needs
-
-enum-told-8 : tie.Need-enum-told-8
-enum-told-8 c = search needs
-
-enum-told-9 : tie.Need-enum-told-9
-enum-told-9 c = search needs
-
 returns : tie.Need-returns
 returns c = simp (c .before .before .before .sort .given .1) (simp (c .before .of .ensures) at (c .is-at-least .ensures))
 
@@ -50,27 +29,6 @@ returns-2 c = simp (c .before .enum-told .given .1) (c .has-bit-from .ensures)
 
 returns-3 : tie.Need-returns-3
 returns-3 c = search needs
-
-returns-4 : tie.Need-returns-4
-returns-4 c = search needs
-
-returns-5 : tie.Need-returns-5
-returns-5 c = search needs
-
-returns-6 : tie.Need-returns-6
-returns-6 c = search needs
-
-returns-7 : tie.Need-returns-7
-returns-7 c = search needs
-
-returns-8 : tie.Need-returns-8
-returns-8 c = search needs
-
-returns-9 : tie.Need-returns-9
-returns-9 c = search needs
-
-returns-10 : tie.Need-returns-10
-returns-10 c = search needs
 
 pub is-dangling-spec : {M : Type 1} → statement M
 is-dangling-spec =
@@ -82,20 +40,6 @@ is-dangling-spec =
     enum-told
     has-bit-from-requires
     enum-told-2
-    enum-told-3
-    enum-told-4
-    enum-told-5
-    enum-told-6
-    enum-told-7
-    enum-told-8
-    enum-told-9
     returns
     returns-2
-    returns-3
-    returns-4
-    returns-5
-    returns-6
-    returns-7
-    returns-8
-    returns-9
-    returns-10)
+    returns-3)

@@ -6,7 +6,7 @@ use lib.ListN.{replicate, length-replicate}
 use lib.Seq.{take-all}
 use Rattle.laws.specs.Lists.{past-end, in-run}
 use Rattle.kinds.specs.declared.Rule.the-variants.{Blank, Needed}
-use Rattle.kinds.specs.declared.Sort.the-variants.{Form}
+use Rattle.kinds.specs.Sorts.{Form}
 use Rattle.kinds.proofs.parts_rule.Statement.{statement}
 use Rattle.kinds.proofs.parts_rule.Tie as tie
 
