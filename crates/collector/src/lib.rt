@@ -336,22 +336,26 @@ impl Case {
                 match kind {
                     Kind::State => {
                         let n = self.count.states;
-                        self.states[n] = items::state_of(row);
+                        let state = items::state_of(row);
+                        self.states[n] = state;
                         self.count.states = n + 1;
                     }
                     Kind::Guard => {
                         let n = self.count.guards;
-                        self.guards[n] = items::guard_of(row);
+                        let guard = items::guard_of(row);
+                        self.guards[n] = guard;
                         self.count.guards = n + 1;
                     }
                     Kind::Move => {
                         let n = self.count.moves;
-                        self.moves[n] = items::move_of(row);
+                        let transition = items::move_of(row);
+                        self.moves[n] = transition;
                         self.count.moves = n + 1;
                     }
                     Kind::Sentence => {
                         let n = self.count.sentences;
-                        self.sentences[n] = items::sentence_of(row);
+                        let sentence = items::sentence_of(row);
+                        self.sentences[n] = sentence;
                         self.count.sentences = n + 1;
                     }
                     Kind::Place => {

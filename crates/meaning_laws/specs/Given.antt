@@ -39,9 +39,11 @@ use Rattle.items.specs.declared.Form.{Form}
 use Rattle.items.specs.declared.Form.the-variants as form
 use Rattle.items.specs.declared.LoopMark.{LoopMark}
 use Rattle.items.specs.declared.LoopMark.the-variants as mark
+use Rattle.items.specs.declared.Guard.{Guard}
 use Rattle.items.specs.declared.Move.{Move}
+use Rattle.items.specs.declared.Sentence.{Sentence}
 use Rattle.items.specs.declared.Place.{Place}
-use Rattle.items.specs.Items.{Item, itemOf, rowOf, integer, reference, guardOf, moveOf, perCounter}
+use Rattle.items.specs.Items.{Item, itemOf, rowOf, integer, reference, guardOf, moveOf, sentenceOf, placeOf, perCounter}
 use Rattle.items.specs.Lists.{Items, listOf, countsOf, roomOf, noItem}
 use Rattle.checks.specs.Faults.{beyond, outside, atLeast, notThere}
 use Rattle.rules.specs.Rules.{markAt, lengthOf}
@@ -121,20 +123,25 @@ MarkHas n mark.None = Unit {0}
 MarkHas n (mark.Counted l r b) = (1 ≤ l) × (b < n) × (1 ≤ r) × (r ≤ 1000000)
 MarkHas n (mark.Endless l b) = (1 ≤ l) × (b < n)
 
--- what an item has, where so many items are held
-abbrev ItemHas : Counts → (k : Kind) → Item k → Type 0
-ItemHas n kind.State x = Unit {0}
-ItemHas n kind.Guard x = (length (x .coefficients .at) ≤ counters) × All (Within 999) (x .coefficients .at)
-ItemHas n kind.Move x = All (λ g. g < n .guards) (guardsOf x) × All (Within 9999) (x .updates .at)
-ItemHas n kind.Sentence x = Refers (n .sentences) (x .form)
-ItemHas n kind.Place x = (x .state < n .states) × Names (n .moves) (x .way) × MarkHas (n .moves) (x .mark)
+-- what an item of each kind has that the meaning reads, where so many items are held
+abbrev GuardHas : Counts → Guard → Type 0
+GuardHas n x = (length (x .coefficients .at) ≤ counters) × All (Within 999) (x .coefficients .at)
+
+abbrev MoveHas : Counts → Move → Type 0
+MoveHas n x = All (λ g. g < n .guards) (guardsOf x) × All (Within 9999) (x .updates .at)
+
+abbrev SentenceHas : Counts → Sentence → Type 0
+SentenceHas n x = Refers (n .sentences) (x .form)
+
+abbrev PlaceHas : Counts → Place → Type 0
+PlaceHas n x = (x .state < n .states) × Names (n .moves) (x .way) × MarkHas (n .moves) (x .mark)
 
 module _ (n : Counts) where
-  -- an item has it that meets the rules of its kind
-  abbrev Given : (k : Kind) → Item k → Type 0
-  Given k x = Fit k (rowOf k x) → Held n k (rowOf k x) → ItemHas n k x
+  -- an item of kind k that meets its rules has P
+  abbrev Given : (k : Kind) → (Counts → Item k → Type 0) → Item k → Type 0
+  Given k P x = Fit k (rowOf k x) → Held n k (rowOf k x) → P n x
 
-  guard-has : (r : List Field) → Given kind.Guard (guardOf r)
+  guard-has : (r : List Field) → Given kind.Guard GuardHas (guardOf r)
   unfolding rowOf ruleAt shapeOf guardOf perCounter
   guard-has r f t = (
     omega arith,
@@ -142,7 +149,7 @@ module _ (n : Counts) where
         (drop counters (rowOf kind.Guard (guardOf r))) (λ j. met f (suc j) .ranged),
   )
 
-  move-has : (r : List Field) → Given kind.Move (moveOf r)
+  move-has : (r : List Field) → Given kind.Move MoveHas (moveOf r)
   unfolding rowOf ruleAt shapeOf moveOf perCounter
   move-has r f t =
       let m = moveOf r in
@@ -173,7 +180,7 @@ module _ (n : Counts) where
       let w = terms-have a b z u v t in
       (leb-false (n .sentences) a (t 2), leb-false (n .sentences) b (t 3), w .0, w .1)
 
-  place-has : (s : ℕ) (w : Ref) (k : ℕ) (m : LoopMark) → Given kind.Place (record { state = s; way = w; marks = k; mark = m })
+  place-has : (s : ℕ) (w : Ref) (k : ℕ) (m : LoopMark) → Given kind.Place PlaceHas (record { state = s; way = w; marks = k; mark = m })
   unfolding rowOf ruleAt shapeOf
   place-has s w k m f t = (leb-false (n .states) s (t 1), names (n .moves) w (t 2), go m f t)
     where
@@ -185,13 +192,6 @@ module _ (n : Counts) where
           let p = from-to 1 1000000 r (met f 5 .ranged) in
           (from-to 1 64 l (met f 4 .ranged) .0, leb-false (n .moves) b (t 6), p .0, p .1)
       go (mark.Endless l b) f t = (from-to 1 64 l (met f 4 .ranged) .0, leb-false (n .moves) b (t 6))
-
-  item-has : (k : Kind) (x : Item k) → itemOf k (rowOf k x) ≡ x → Given k x
-  item-has kind.State x e = λ f t. tt
-  item-has kind.Guard x e = subst (Given kind.Guard) e (guard-has (rowOf kind.Guard x))
-  item-has kind.Move x e = subst (Given kind.Move) e (move-has (rowOf kind.Move x))
-  item-has kind.Sentence x e = λ f t. form-has (x .form) t
-  item-has kind.Place x e = place-has (x .state) (x .way) (x .marks) (x .mark)
 
 -- ---- the case
 
@@ -224,22 +224,34 @@ module _ (c : Case) (s : Sound c) where
   abbrev x : Items
   x = itemsOf c
 
-  held : (k : Kind) (i : ℕ) → i < length (listOf k x) → ItemHas (reach (countsOf x) k i) k (getD (listOf k x) i (noItem k))
-  held k i h =
+  -- each item of a kind has what its row gives
+  held : (k : Kind) (P : Counts → Item k → Type 0) → ((n : Counts) (r : List Field) → Given n k P (itemOf k r)) →
+      (i : ℕ) → i < length (listOf k x) → P (reach (countsOf x) k i) (getD (listOf k x) i (noItem k))
+  held k P has i h =
       let l : i < countOf (c .count) k = omega (arith, counted c s k) in
-      subst (λ n. ItemHas (reach n k i) k (getD (listOf k x) i (noItem k))) (counts-are c s)
-      (item-has (reach (c .count) k i) k (getD (listOf k x) i (noItem k)) (s .read k i l) (s .fit k i l)
-      (λ f. tells-false _ (tells-there k _ f (reach (c .count) k i)) (s .there k i l f)))
+      let n = reach (c .count) k i in
+      let y = getD (listOf k x) i (noItem k) in
+      subst (λ m. P (reach m k i) y) (counts-are c s)
+      (subst (Given n k P) (s .read k i l) (has n (rowOf k y)) (s .fit k i l) (λ f. tells-false _ (tells-there k _ f n) (s .there k i l f)))
+
+  guard-held : (i : ℕ) → i < length (x .guards) → GuardHas (countsOf x) (getD (x .guards) i (noItem kind.Guard))
+  guard-held = held kind.Guard GuardHas guard-has
+
+  move-held : (i : ℕ) → i < length (x .moves) → MoveHas (countsOf x) (getD (x .moves) i (noItem kind.Move))
+  move-held = held kind.Move MoveHas move-has
+
+  place-held : (i : ℕ) → i < length (x .places) → PlaceHas (countsOf x) (getD (x .places) i (noItem kind.Place))
+  place-held = held kind.Place PlaceHas (λ n r. place-has n (placeOf r .state) (placeOf r .way) (placeOf r .marks) (placeOf r .mark))
 
   marks : (p : ℕ) → MarkHas (length (x .moves)) (markAt (x .places) p)
   marks p =
-      by-end (λ (q : Place). MarkHas (length (x .moves)) (q .mark)) (x .places) (noItem kind.Place) p (λ h. held kind.Place p h .2) tt
+      by-end (λ (q : Place). MarkHas (length (x .moves)) (q .mark)) (x .places) (noItem kind.Place) p (λ h. place-held p h .2) tt
 
   adds : (t : Ref) → All (Within 9999) (moveAt (x .moves) t .updates .at)
   unfolding moveAt
   adds ref.None = zeros-within 9999 counters refl
   adds (ref.At t) =
-      by-end (λ (m : Move). All (Within 9999) (m .updates .at)) (x .moves) (noItem kind.Move) t (λ h. held kind.Move t h .1) (zeros-within 9999 counters refl)
+      by-end (λ (m : Move). All (Within 9999) (m .updates .at)) (x .moves) (noItem kind.Move) t (λ h. move-held t h .1) (zeros-within 9999 counters refl)
 
   pub facts : Facts (itemsOf c)
   unfolding moveAt startOf
@@ -254,19 +266,19 @@ module _ (c : Case) (s : Sound c) where
         room =
             λ p h. ends p (roomOf kind.Place) (markAt (x .places) p) (omega (arith, counted c s kind.Place, s .room kind.Place)) (s .loops .within p h);
         rounds = λ p l n b e. let h : MarkHas (length (x .moves)) (mark.Counted l n b) = subst (MarkHas _) e (marks p) in (h .2, h .3);
-        states = λ p h. held kind.Place p h .0;
+        states = λ p h. place-held p h .0;
         start =
             by-end (λ (p : Place). p .way ≡ ref.None) (x .places) (noItem kind.Place) 0
             (λ h. s .ways 0 (omega (arith, counted c s kind.Place)) .0 refl) refl;
         ways =
             λ p l h.
-            has-way (length (x .moves)) _ (held kind.Place p h .1)
+            has-way (length (x .moves)) _ (place-held p h .1)
             (λ e. let z = s .ways p (omega (arith, counted c s kind.Place)) .1 e in omega arith);
         backs = λ p t h. has-back (length (x .moves)) t (markAt (x .places) p) (marks p);
-        guards = λ t h. held kind.Move t h .0;
-        refers = held kind.Sentence;
+        guards = λ t h. move-held t h .0;
+        refers = held kind.Sentence SentenceHas (λ n r f t. form-has n (sentenceOf r .form) t);
         starts = λ j. field-within mostStart (pos 0) refl;
         updates = λ t. all-at (Within 9999) _ (pos 0) (adds t) (field-within 9999 (pos 0) refl);
         coefficients =
-            λ g. by-end (ItemHas (countsOf x) kind.Guard) (x .guards) (noItem kind.Guard) g (held kind.Guard g) (omega arith, zeros-within 999 counters refl);
+            λ g. by-end (GuardHas (countsOf x)) (x .guards) (noItem kind.Guard) g (guard-held g) (omega arith, zeros-within 999 counters refl);
       }

@@ -91,6 +91,10 @@ needed : (b : Bool) (s : Sort) (z : ℤ) → MeetsRule (neededIf b s) (Number z)
 needed true s z m = m
 needed false s z m = record { spelled = refl; full = refl; bare = refl; ranged = m .ranged }
 
+-- the field of a number that 16 bits hold
+abbrev short : Content → Field
+short c = integer (shortOf (integerOf c))
+
 module _ (s : Sort) where
   integer-again : (c : Content) → MeetsRule (rule.Needed s) c → integer (integerOf c) ≡ field c
   integer-again Blank m = absurd (true≢false (m .full))
@@ -117,20 +121,19 @@ module _ (s : Sort) where
   abbrev Short : Type 0
   Short = Inside s (negsuc 32767) (pos 32767)
 
-  short-again : Short → (c : Content) → MeetsRule (rule.Needed s) c → integer (shortOf (integerOf c)) ≡ field c
+  short-again : Short → (c : Content) → MeetsRule (rule.Needed s) c → short c ≡ field c
   short-again w Blank m = absurd (true≢false (m .full))
   short-again w (Number z) m =
       let e = wider s (negsuc 32767) (pos 32767) z w (m .ranged) in
       λ i. integer (cond (e .0 i) (pos 0) (cond (e .1 i) (pos 0) z))
   short-again w Bad m = absurd (true≢false (m .spelled))
 
-  -- fields in a row that have this rule, in front of others
-  shorts-again : Short → (rs : List Field) (us : List Rule) (xs : List Field)
+  -- fields in a row that have this rule, in front of others, where h gives each again
+  each-again : (h : Content → Field) → ((c : Content) → MeetsRule (rule.Needed s) c → h c ≡ field c) → (rs : List Field) (us : List Rule) (xs : List Field)
       → ((j : ℕ) → MeetsRule (getD (replicate (length rs) (rule.Needed s) ++ us) j rule.Blank) (at (rs ++ xs) (suc j)))
-      → map (λ (r : Field). integer (shortOf (integerOf (r .content)))) rs ≡ rs
-  shorts-again w [] us xs m = refl
-  shorts-again w (r ∷ rs) us xs m =
-      λ i. short-again w (r .content) (m 0) i ∷ shorts-again w rs us xs (λ j. m (suc j)) i
+      → map (λ (r : Field). h (r .content)) rs ≡ rs
+  each-again h a [] us xs m = refl
+  each-again h a (r ∷ rs) us xs m = λ i. a (r .content) (m 0) i ∷ each-again h a rs us xs (λ j. m (suc j)) i
 
 -- a reference to an item of kind k, needed or not
 module _ (k : Kind) where
@@ -204,7 +207,7 @@ module _ (g : ℕ → Content) where
   guard-again c f =
       let r = row c in
       let p =
-      shorts-again sort.Coefficient (refl, refl) (take counters r) (drop counters (rulesIn kind.Guard r)) (drop counters r) (λ j. met f (suc j)) in
+      each-again sort.Coefficient short (short-again sort.Coefficient (refl, refl)) (take counters r) (drop counters (rulesIn kind.Guard r)) (drop counters r) (λ j. met f (suc j)) in
       λ i. p i ++ (integer-again sort.Bound (at r (1 + counters)) (met f (1 + counters)) i ∷ rest-again f (1 + counters) (lit≤ tt) i)
 
   move-again : (c : Content) → Again kind.Move (row c)
@@ -212,7 +215,7 @@ module _ (g : ℕ → Content) where
   move-again c f =
       let r = row c in
       let p =
-      shorts-again sort.Update (refl, refl) (take counters (drop 2 r)) (drop (2 + counters) (rulesIn kind.Move r)) (drop (2 + counters) r)
+      each-again sort.Update short (short-again sort.Update (refl, refl)) (take counters (drop 2 r)) (drop (2 + counters) (rulesIn kind.Move r)) (drop (2 + counters) r)
       (λ j. met f (suc (suc (suc j)))) in
       let q = reference-again kind.Guard (isNumber (g (4 + counters))) (g (3 + counters)) (met f (3 + counters)) in
       let t = reference-again kind.Guard false (g (4 + counters)) (met f (4 + counters)) in

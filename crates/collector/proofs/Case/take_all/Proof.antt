@@ -148,11 +148,11 @@ enum-told-2 c = search needs
 state-of-requires : tie.Need-state-of-requires Inv-loop μ-loop
 state-of-requires c κs = search needs
 
-mul-t34 : tie.Need-mul-t34 Inv-loop μ-loop
-mul-t34 c = omega (arith, room (c .before .before .before) kind.State (c .before .enum-told2 .given .1))
+mul-state : tie.Need-mul-state Inv-loop μ-loop
+mul-state c = omega (arith, room (c .before .before .before) kind.State (c .before .enum-told2 .given .1))
 
-element-set-from-self : tie.Need-element-set-from-self Inv-loop μ-loop
-element-set-from-self c = omega (arith, room (c .before .before .before) kind.State (c .before .enum-told2 .given .1))
+element-set-from-state : tie.Need-element-set-from-state Inv-loop μ-loop
+element-set-from-state c = omega (arith, room (c .before .before .before) kind.State (c .before .enum-told2 .given .1))
 
 add-self : tie.Need-add-self Inv-loop μ-loop
 add-self c = omega (arith, room (c .before .before .before) kind.State (c .before .enum-told2 .given .1))
@@ -163,11 +163,11 @@ enum-told-3 c = search needs
 guard-of-requires : tie.Need-guard-of-requires Inv-loop μ-loop
 guard-of-requires c κs = search needs
 
-mul-t38 : tie.Need-mul-t38 Inv-loop μ-loop
-mul-t38 c = omega (arith, room (c .before .before .before) kind.Guard (c .before .enum-told3 .given .1))
+mul-guard : tie.Need-mul-guard Inv-loop μ-loop
+mul-guard c = omega (arith, room (c .before .before .before) kind.Guard (c .before .enum-told3 .given .1))
 
-element-set-from-self-2 : tie.Need-element-set-from-self-2 Inv-loop μ-loop
-element-set-from-self-2 c = omega (arith, room (c .before .before .before) kind.Guard (c .before .enum-told3 .given .1))
+element-set-from-guard : tie.Need-element-set-from-guard Inv-loop μ-loop
+element-set-from-guard c = omega (arith, room (c .before .before .before) kind.Guard (c .before .enum-told3 .given .1))
 
 add-self-2 : tie.Need-add-self-2 Inv-loop μ-loop
 add-self-2 c = omega (arith, room (c .before .before .before) kind.Guard (c .before .enum-told3 .given .1))
@@ -178,11 +178,11 @@ enum-told-4 c = search needs
 move-of-requires : tie.Need-move-of-requires Inv-loop μ-loop
 move-of-requires c κs = search needs
 
-mul-t42 : tie.Need-mul-t42 Inv-loop μ-loop
-mul-t42 c = omega (arith, room (c .before .before .before) kind.Move (c .before .enum-told4 .given .1))
+mul-transition : tie.Need-mul-transition Inv-loop μ-loop
+mul-transition c = omega (arith, room (c .before .before .before) kind.Move (c .before .enum-told4 .given .1))
 
-element-set-from-self-3 : tie.Need-element-set-from-self-3 Inv-loop μ-loop
-element-set-from-self-3 c = omega (arith, room (c .before .before .before) kind.Move (c .before .enum-told4 .given .1))
+element-set-from-transition : tie.Need-element-set-from-transition Inv-loop μ-loop
+element-set-from-transition c = omega (arith, room (c .before .before .before) kind.Move (c .before .enum-told4 .given .1))
 
 add-self-3 : tie.Need-add-self-3 Inv-loop μ-loop
 add-self-3 c = omega (arith, room (c .before .before .before) kind.Move (c .before .enum-told4 .given .1))
@@ -193,11 +193,11 @@ enum-told-5 c = search needs
 sentence-of-requires : tie.Need-sentence-of-requires Inv-loop μ-loop
 sentence-of-requires c κs = search needs
 
-mul-t46 : tie.Need-mul-t46 Inv-loop μ-loop
-mul-t46 c = omega (arith, room (c .before .before .before) kind.Sentence (c .before .enum-told5 .given .1))
+mul-sentence : tie.Need-mul-sentence Inv-loop μ-loop
+mul-sentence c = omega (arith, room (c .before .before .before) kind.Sentence (c .before .enum-told5 .given .1))
 
-element-set-from-self-4 : tie.Need-element-set-from-self-4 Inv-loop μ-loop
-element-set-from-self-4 c = omega (arith, room (c .before .before .before) kind.Sentence (c .before .enum-told5 .given .1))
+element-set-from-sentence : tie.Need-element-set-from-sentence Inv-loop μ-loop
+element-set-from-sentence c = omega (arith, room (c .before .before .before) kind.Sentence (c .before .enum-told5 .given .1))
 
 add-self-4 : tie.Need-add-self-4 Inv-loop μ-loop
 add-self-4 c = omega (arith, room (c .before .before .before) kind.Sentence (c .before .enum-told5 .given .1))
@@ -277,23 +277,23 @@ take-all-spec =
     is-taken-requires
     enum-told-2
     state-of-requires
-    mul-t34
-    element-set-from-self
+    mul-state
+    element-set-from-state
     add-self
     enum-told-3
     guard-of-requires
-    mul-t38
-    element-set-from-self-2
+    mul-guard
+    element-set-from-guard
     add-self-2
     enum-told-4
     move-of-requires
-    mul-t42
-    element-set-from-self-3
+    mul-transition
+    element-set-from-transition
     add-self-3
     enum-told-5
     sentence-of-requires
-    mul-t46
-    element-set-from-self-4
+    mul-sentence
+    element-set-from-sentence
     add-self-4
     enum-told-6
     place-of-requires
