@@ -27,8 +27,8 @@ rankOf Sentence = 3
 rankOf Place = 4
 
 -- every kind, by its rank
-abbrev pub kinds : List Kind
-kinds = State ∷ Guard ∷ Move ∷ Sentence ∷ Place ∷ []
+abbrev pub allKinds : List Kind
+allKinds = State ∷ Guard ∷ Move ∷ Sentence ∷ Place ∷ []
 
 -- whether two kinds are the same: they have one letter
 abbrev pub same : Kind → Kind → Bool
@@ -41,7 +41,7 @@ kindIn (k ∷ ks) b = cond (eqb b (letterOf k)) (Names k) (kindIn ks b)
 
 -- the kind that a letter names
 abbrev pub kindOf : ℕ → Letter
-kindOf = kindIn kinds
+kindOf = kindIn allKinds
 
 -- how many items of a kind are held
 abbrev pub countOf : Counts → Kind → ℕ
@@ -57,7 +57,7 @@ countsBy f = record { states = f State; guards = f Guard; moves = f Move; senten
 
 -- the sum of a number for each kind
 abbrev pub overKinds : (Kind → ℕ) → ℕ
-overKinds f = sumOver f kinds
+overKinds f = sumOver f allKinds
 
 -- how many items are held
 abbrev pub countsTotal : Counts → ℕ

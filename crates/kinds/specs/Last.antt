@@ -6,11 +6,11 @@ use lib.ListN.{length, getD}
 use Rattle.kinds.specs.declared.Kind.{Kind}
 use Rattle.kinds.specs.declared.Kind.the-variants.{State}
 use Rattle.kinds.specs.declared.Counts.{Counts}
-use Rattle.kinds.specs.Kinds.{kinds, countOf}
+use Rattle.kinds.specs.Kinds.{allKinds, countOf}
 
 -- the kind of a rank
 abbrev pub kindAt : ℕ → Kind
-kindAt r = getD kinds r State
+kindAt r = getD allKinds r State
 
 -- of the ranks below r, the last of whose kind an item is held; 0 where there is none
 unfoldable pub lastBelow : ℕ → Counts → ℕ
@@ -19,4 +19,4 @@ lastBelow (suc r) n = cond (ltb 0 (countOf n (kindAt r))) r (lastBelow r n)
 
 -- the rank of the last kind of which an item is held
 abbrev pub lastRank : Counts → ℕ
-lastRank n = lastBelow (length kinds) n
+lastRank n = lastBelow (length allKinds) n

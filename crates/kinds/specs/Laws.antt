@@ -17,7 +17,7 @@ use Rattle.kinds.specs.declared.Kind.{Kind}
 use Rattle.kinds.specs.declared.Kind.the-variants.{State, Guard, Move, Sentence, Place}
 use Rattle.kinds.specs.declared.Letter.the-variants.{Names}
 use Rattle.kinds.specs.declared.Counts.{Counts}
-use Rattle.kinds.specs.Kinds.{letterOf, kinds, same, rankOf, kindIn, kindOf, countOf, countsBy, overKinds}
+use Rattle.kinds.specs.Kinds.{letterOf, allKinds, same, rankOf, kindIn, kindOf, countOf, countsBy, overKinds}
 use Rattle.kinds.specs.Last.{kindAt, lastBelow, lastRank}
 
 -- ---- letters
@@ -60,8 +60,8 @@ kind-has b k (j ∷ js) =
     (λ t e. let q : k ≡ j = cc in List·Memᴰ·head q) (λ t e. List·Memᴰ·tail (kind-has b k js e))
 
 -- a test that holds of each of the list holds of every kind
-pub every : (t : Kind → Bool) → allOf t kinds ≡ true → (k : Kind) → t k ≡ true
-every t e k = holds-all t e (kind-has (letterOf k) k kinds (named k))
+pub every : (t : Kind → Bool) → allOf t allKinds ≡ true → (k : Kind) → t k ≡ true
+every t e k = holds-all t e (kind-has (letterOf k) k allKinds (named k))
 
 -- ---- ranks
 
@@ -69,15 +69,15 @@ pub kind-at : (k : Kind) → kindAt (rankOf k) ≡ k
 unfolding allOf
 kind-at k = same-is (kindAt (rankOf k)) k (every (λ j. same (kindAt (rankOf j)) j) refl k)
 
-rank-below : (k : Kind) → rankOf k < length kinds
+rank-below : (k : Kind) → rankOf k < length allKinds
 unfolding allOf
-rank-below k = ltb-true (rankOf k) (length kinds) (every (λ j. ltb (rankOf j) (length kinds)) refl k)
+rank-below k = ltb-true (rankOf k) (length allKinds) (every (λ j. ltb (rankOf j) (length allKinds)) refl k)
 
-rank-at : (r : ℕ) → r < length kinds → rankOf (kindAt r) ≡ r
+rank-at : (r : ℕ) → r < length allKinds → rankOf (kindAt r) ≡ r
 unfolding lowest
 rank-at r h =
     eqb-true (rankOf (kindAt r)) r
-    (not-false _ (lowest-none (λ i. not (eqb (rankOf (kindAt i)) i)) (length kinds) 0 refl r (omega arith) h))
+    (not-false _ (lowest-none (λ i. not (eqb (rankOf (kindAt i)) i)) (length allKinds) 0 refl r (omega arith) h))
 
 -- kinds are the same where their ranks are
 pub same-rank : (j k : Kind) → eqb (rankOf j) (rankOf k) ≡ same j k
@@ -114,7 +114,7 @@ unfolding allOf sumOver
 once k = eqb-true _ 1 (every (λ i. eqb (overKinds (λ j. cond (same i j) 1 0)) 1) refl k)
 
 pub over-more : (f : Kind → ℕ) (k : Kind) → overKinds (λ j. cond (same k j) (f j + 1) (f j)) ≡ overKinds f + 1
-over-more f k = sum-more f (same k) kinds ∙ ap (λ n. overKinds f + n) (once k)
+over-more f k = sum-more f (same k) allKinds ∙ ap (λ n. overKinds f + n) (once k)
 
 -- ---- the last kind of which an item is held
 
@@ -123,7 +123,7 @@ module _ (n : Counts) where
   abbrev pub HeldAbove : ℕ → Type 0
   HeldAbove m = (j : Kind) × (m < rankOf j) × (0 < countOf n j)
 
-  above-last : (m r : ℕ) → r ≤ length kinds → m < lastBelow r n → HeldAbove m
+  above-last : (m r : ℕ) → r ≤ length allKinds → m < lastBelow r n → HeldAbove m
   unfolding lastBelow
   above-last m zero l = λ h. absurd (omega arith)
   above-last m (suc r) l =
@@ -144,6 +144,6 @@ module _ (n : Counts) where
 
   pub tells-last : (m : ℕ) → Tells (ltb m (lastRank n)) (HeldAbove m)
   tells-last m = (
-    λ e. above-last m (length kinds) (omega arith) (ltb-true m _ e),
-    λ (j, h, l). lt-ltb m _ (omega (arith, held-below (rankOf j) (length kinds) (rank-below j) (subst (λ k. 0 < countOf n k) (sym (kind-at j)) l))),
+    λ e. above-last m (length allKinds) (omega arith) (ltb-true m _ e),
+    λ (j, h, l). lt-ltb m _ (omega (arith, held-below (rankOf j) (length allKinds) (rank-below j) (subst (λ k. 0 < countOf n k) (sym (kind-at j)) l))),
   )

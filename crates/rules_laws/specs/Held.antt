@@ -17,7 +17,7 @@ use Rattle.record.specs.Layout.{fields, at, recordOf}
 use Rattle.kinds.specs.declared.Kind.{Kind}
 use Rattle.kinds.specs.declared.Kind.the-variants.{Place}
 use Rattle.kinds.specs.declared.Counts.{Counts}
-use Rattle.kinds.specs.Kinds.{kinds, countOf, overKinds, countsTotal, same, letterOf, rankOf}
+use Rattle.kinds.specs.Kinds.{allKinds, countOf, overKinds, countsTotal, same, letterOf, rankOf}
 use Rattle.kinds.specs.Laws.{same-self, by-kind, count-own, count-rest, counts-same}
 use Rattle.kinds.specs.Last.{lastRank}
 use Rattle.kinds.specs.Table.{shapeOf, natural, isNumber, isBlank}
@@ -153,7 +153,7 @@ counts-are c s = kept-counts c (s .same)
 module _ {c : Case} (s : Sound c) where
   -- all that is held has room
   pub total-room : countsTotal (c .count) ≤ overKinds roomOf
-  total-room = sum-le (countOf (c .count)) roomOf (s .room) kinds
+  total-room = sum-le (countOf (c .count)) roomOf (s .room) allKinds
 
   -- what is kept beside the items follows from them
   pub derived : c .derived ≡ derivedOf (itemsOf c)

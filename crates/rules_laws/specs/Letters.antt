@@ -11,7 +11,7 @@ use Rattle.record.specs.Layout.{recordLength, lineFeed}
 use Rattle.kinds.specs.declared.Kind.{Kind}
 use Rattle.kinds.specs.declared.Letter.{Letter}
 use Rattle.kinds.specs.declared.Letter.the-variants.{Names, Unknown}
-use Rattle.kinds.specs.Kinds.{letterOf, kinds, kindIn, kindOf}
+use Rattle.kinds.specs.Kinds.{letterOf, allKinds, kindIn, kindOf}
 use Rattle.kinds.specs.Laws.{kind-named}
 use Rattle.answers.specs.declared.Answer.the-variants.{NotARecord, NoLineFeed, NoSuchKind}
 use Rattle.checks.specs.declared.Head.{Head}
@@ -62,6 +62,6 @@ module _ (bs : List ℕ) (P : Head → Type 0) where
       cond-by P (eqb (getD bs (recordLength - 1) 0) lineFeed) {x = namedHead (kindOf (getD bs 0 0))} {y = Refused NoLineFeed}
       (λ f.
       let d = eqb-true (getD bs (recordLength - 1) 0) lineFeed f in
-      by-letter (kindOf (getD bs 0 0)) refl (reads (getD bs 0 0) kinds) (none w d) (some w d))
+      by-letter (kindOf (getD bs 0 0)) refl (reads (getD bs 0 0) allKinds) (none w d) (some w d))
       (λ f. unended w (eqb-false _ lineFeed f)))
       (λ e. short (eqb-false _ recordLength e))
