@@ -1,8 +1,10 @@
--- Laws of the answers: every refusal stands in the order of the tests once, and an answer takes where its number is 0. Assumes nothing.
-use mathlib.Core.Path.{refl, _≡_}
+-- Laws of the answers: every refusal stands in the order of the tests once; an answer takes where its number is 0; what an answer that takes says of the tests. Assumes nothing.
+use mathlib.Core.Path.{refl, _≡_, _∙_, sym}
+use mathlib.Core.Bool.{Bool, true, false, cond, true≢false}
 use lib.Dec.{eqb}
 use lib.ListN.{getD}
 use Rattle.laws.specs.Lowest.{lowest}
+use Rattle.laws.specs.Tests.{cond-by}
 use Rattle.answers.specs.declared.Answer.{Answer}
 use Rattle.answers.specs.declared.Answer.the-variants.{Misfilled, Misplaced, Misspelled, NoLineFeed, NoRoom, NoSuchKind, NotARecord, NotThere, OutOfOrder, OutOfRange, Taken, WrongWayIn}
 use Rattle.answers.specs.Answers.{fieldOf, numberOf, testOrder, turnOf, isTaken}
@@ -37,3 +39,14 @@ taken-is NoRoom = refl
 taken-is (NotThere f) = refl
 taken-is (Misplaced f) = refl
 taken-is WrongWayIn = refl
+
+-- a test with its refusal comes before b: an answer that takes has passed it
+pub passed : (t : Bool) (a b : Answer) → isTaken a ≡ false → isTaken (cond t a b) ≡ true → (t ≡ false) × (isTaken b ≡ true)
+passed true a b r e = absurd (true≢false (sym e ∙ r))
+passed false a b r e = (refl, e)
+
+-- b where a takes, and else a: it takes where both do
+pub both-take : (a b : Answer) → isTaken (cond (isTaken a) b a) ≡ true → (isTaken a ≡ true) × (isTaken b ≡ true)
+both-take a b =
+    cond-by (λ (q : Answer). isTaken q ≡ true → (isTaken a ≡ true) × (isTaken b ≡ true)) (isTaken a) {x = b} {y = a}
+    (λ e h. (e, h)) (λ e h. absurd (true≢false (sym h ∙ e)))

@@ -23,7 +23,7 @@ use Rattle.checks.specs.declared.Head.the-variants.{Of, Refused}
 use Rattle.answers.specs.declared.Answer.{Answer}
 use Rattle.answers.specs.declared.Answer.the-variants.{Taken, NotARecord, NoLineFeed, OutOfOrder, NoRoom}
 use Rattle.answers.specs.Answers.{numberOf, fieldOf, testOrder, turnOf, isTaken}
-use Rattle.answers.specs.Laws.{in-order, taken-is}
+use Rattle.answers.specs.Laws.{in-order, taken-is, passed, both-take}
 use Rattle.checks.specs.Input.{fieldsAnswer, namedHead, endedHead, headOf}
 use Rattle.collector.specs.declared.Loops.{Loops}
 use Rattle.collector.specs.declared.Case.{Case}
@@ -129,19 +129,11 @@ collected-refused c m bs rs a e =
 
 -- ---- a record that is taken finds room
 
-passed : (t : Bool) (a b : Answer) → isTaken a ≡ false → isTaken (cond t a b) ≡ true → (t ≡ false) × (isTaken b ≡ true)
-passed true a b e h = absurd (let z : _≡_ {A = ℕ} 0 1 = cc in omega arith)
-passed false a b e h = (refl, h)
-
-well : (t : Bool) (a b : Answer) → isTaken b ≡ t → isTaken (cond t a b) ≡ true → isTaken a ≡ true
-well true a b e h = h
-well false a b e h = absurd (let z : _≡_ {A = ℕ} 0 1 = cc in omega arith)
-
 pub has-room : (n : Counts) (l : Loops) (k : Kind) (r : Record) → isTaken (recordAnswer n l k r) ≡ true → countOf n k < roomOf k
 unfolding recordAnswer orderAnswer roomAnswer shapeOf
 has-room n l k r h =
     let s = shapeOf k r in
-    let o = well (isTaken (fieldsAnswer s r)) (orderAnswer n l s r) (fieldsAnswer s r) refl h in
+    let o = both-take (fieldsAnswer s r) (orderAnswer n l s r) h .1 in
     let p = passed (ltb (rankOf k) (lastRank n)) OutOfOrder (roomAnswer n l s r) refl o .1 in
     leb-false (roomOf k) (countOf n k) (passed (leb (roomOf k) (countOf n k)) NoRoom (thereAnswer n l s r) refl p .0)
 

@@ -10,7 +10,7 @@ use lib.ListN.{length, take, set, replicate, getD, length-append, length-replica
 use lib.Seq.{take-append-seam, set-at, append-snoc}
 use borrow.Author.Tests.{leb-false}
 use Rattle.laws.specs.Members.{sum-le}
-use Rattle.laws.specs.Tests.{cond-by, tells-not}
+use Rattle.laws.specs.Tests.{tells-not}
 use Rattle.record.specs.declared.Field.{Field}
 use Rattle.record.specs.declared.Record.{Record}
 use Rattle.record.specs.Layout.{fields, at, recordOf}
@@ -24,9 +24,9 @@ use Rattle.kinds.specs.Table.{shapeOf, natural, isNumber, isBlank}
 use Rattle.items.specs.Items.{Item, itemOf, placeOf}
 use Rattle.items.specs.Lists.{Items, listOf, itemsBy, countsOf, roomOf, noItem}
 use Rattle.items.specs.Laws.{list-by, items-same, counted-of}
-use Rattle.answers.specs.declared.Answer.{Answer}
 use Rattle.answers.specs.declared.Answer.the-variants.{Taken, Misspelled, Misfilled, OutOfRange, OutOfOrder, NoRoom, NotThere, Misplaced, WrongWayIn}
 use Rattle.answers.specs.Answers.{isTaken}
+use Rattle.answers.specs.Laws.{passed, both-take}
 use Rattle.checks.specs.declared.Fault.{Fault}
 use Rattle.checks.specs.declared.Fault.the-variants as fault
 use Rattle.checks.specs.declared.Head.{Head}
@@ -235,11 +235,6 @@ pub record IsTaken (c : Case) (bs : List ℕ) : Type 0 where
   pub next : Next (c .count) (c .derived .loops) kind (recordOf bs)
   pub case : takenOf c bs .case ≡ with c kind (recordOf bs .fields)
 
--- a stage with one test and a refusal
-passed : (t : Bool) (a b : Answer) → isTaken a ≡ false → isTaken (cond t a b) ≡ true → (t ≡ false) × (isTaken b ≡ true)
-passed true a b r e = absurd (true≢false (sym e ∙ r))
-passed false a b r e = (refl, e)
-
 fit-is : (k : Kind) (bs : List ℕ) → isTaken (fieldsAnswer (shapeOf k (recordOf bs)) (recordOf bs)) ≡ true → Fit k (recordOf bs .fields)
 unfolding fieldsAnswer formAnswer missingAnswer extraAnswer rangeAnswer
 fit-is k bs e =
@@ -281,12 +276,6 @@ next-is n l k bs e =
       there = λ g. tells-not _ (tells-there k (r .fields) g n) (fault-none (fault.NotThere n) s bs (leb-false m fields (p2 .0)) g);
       place = λ i. place-is l (n .places) (r .fields) (subst (λ j. isTaken (layoutAnswer j n l (r .fields)) ≡ true) i (p2 .1));
     }
-
--- a taken record passes its own tests and those of the state
-both-take : (a b : Answer) → isTaken (cond (isTaken a) b a) ≡ true → (isTaken a ≡ true) × (isTaken b ≡ true)
-both-take a b =
-    cond-by (λ (q : Answer). isTaken q ≡ true → (isTaken a ≡ true) × (isTaken b ≡ true)) (isTaken a) {x = b} {y = a}
-    (λ e h. (e, h)) (λ e h. absurd (true≢false (sym h ∙ e)))
 
 module _ (c : Case) (bs : List ℕ) where
   -- a head that is refused is not taken, and another has its kind's letter

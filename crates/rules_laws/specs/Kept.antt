@@ -141,14 +141,6 @@ all-snoc P l x d n e old new i h =
           subst (λ j. P j (getD (l ++ (x ∷ [])) j d)) q (subst (P n) (sym (getD-at l x [] d n e)) new)
     ]
 
--- the item of kind k that the row r becomes may come next
-record MayCome (c : Case) (k : Kind) (r : List Field) : Type 0 where
-  room : countOf (c .count) k < roomOf k
-  fit : Fit k r
-  there : There (c .count) k r
-  again : rowOf k (itemOf k r) ≡ r
-  place : k ≡ kind.Place → Placed (c .derived .loops) (c .count .places) r
-
 -- what a sound case has of its n places ps
 record Places (n : ℕ) (ps : List Place) : Type 0 where
   ways : (i : ℕ) → i < n → (i ≡ 0) ↔ (getD ps i (noItem kind.Place) .way ≡ ref.None)
@@ -170,17 +162,24 @@ module _ (c : Case) (s : Sound c) where
   places : Places (c .count .places) (itemsOf c .places)
   places = record { ways = s .ways; loops = s .loops }
 
-  module _ (k : Kind) (r : List Field) (t : MayCome c k r) where
+  -- a record that is taken: its kind, its row, and the item that it becomes, whose row it is again
+  module _ (bs : List ℕ) (t : IsTaken c bs) where
+    abbrev k : Kind
+    k = t .kind
+
+    abbrev r : List Field
+    r = recordOf bs .fields
+
     abbrev x : Item k
     x = itemOf k r
 
-    -- the row of the new item is as good as r
-    rowed : (P : List Field → Type 0) → P r → P (rowOf k x)
-    rowed P = subst P (sym (t .again))
+    again : rowOf k x ≡ r
+    unfolding recordOf
+    again = fields-again k r refl (t .fit)
 
     places-with : Places (with c k r .count .places) (itemsOf (with c k r) .places)
     places-with =
-        subst (λ (y : Items). Places (with c k r .count .places) (y .places)) (sym (items-with c k r (s .same) (t .room))) (go (same k kind.Place) refl)
+        subst (λ (y : Items). Places (with c k r .count .places) (y .places)) (sym (items-with c k r (s .same) (t .next .room))) (go (same k kind.Place) refl)
       where
         n : ℕ
         n = c .count .places
@@ -190,10 +189,10 @@ module _ (c : Case) (s : Sound c) where
 
         here : k ≡ kind.Place → Places (n + 1) (ps ++ (placeOf r ∷ []))
         here e =
-            let q : rowOf kind.Place (placeOf r) ≡ r = subst (λ j. rowOf j (itemOf j r) ≡ r) e (t .again) in
-            one-place n ps (placeOf r) (counted c s kind.Place) (subst (λ j. countOf (c .count) j < roomOf j) e (t .room)) places
+            let q : rowOf kind.Place (placeOf r) ≡ r = subst (λ j. rowOf j (itemOf j r) ≡ r) e again in
+            one-place n ps (placeOf r) (counted c s kind.Place) (subst (λ j. countOf (c .count) j < roomOf j) e (t .next .room)) places
             (subst (Fit kind.Place) (sym q) (subst (λ j. Fit j r) e (t .fit)))
-            (subst₂ (λ (d : Derived) r. Placed (d .loops) n r) (derived s) (sym q) (t .place e))
+            (subst₂ (λ (d : Derived) r. Placed (d .loops) n r) (derived s) (sym q) (t .next .place e))
 
         go : (b : Bool) → same k kind.Place ≡ b → Places (cond b (n + 1) n) (cond b (ps ++ (placeOf r ∷ [])) ps)
         go true e = here (same-is k kind.Place e)
@@ -207,24 +206,24 @@ module _ (c : Case) (s : Sound c) where
     all-with P old new =
         by-kind (λ j. (i : ℕ) → i < countOf (with c k r .count) j → P j i (getD (listOf j (itemsOf (with c k r))) i (noItem j))) k
         (subst₂ (λ n l. (i : ℕ) → i < n → P k i (getD l i (noItem k))) (sym (count-more (c .count) k))
-        (sym (same-kind c k r (s .same) (t .room)))
+        (sym (same-kind c k r (s .same) (t .next .room)))
         (all-snoc (P k) (listOf k (itemsOf c)) x (noItem k) (countOf (c .count) k) (counted c s k) (old k) new))
         (λ j o. subst₂ (λ n l. (i : ℕ) → i < n → P j i (getD l i (noItem j))) (sym (count-other (c .count) k j o))
-        (sym (other-list c k r (s .same) (t .room) j o)) (old j))
+        (sym (other-list c k r (s .same) (t .next .room) j o)) (old j))
 
     sound-with : Sound (with c k r)
     sound-with =
         record {
-          same = kept-with c k r (s .same) (t .room);
+          same = kept-with c k r (s .same) (t .next .room);
           room =
-              by-kind (λ j. countOf (with c k r .count) j ≤ roomOf j) k (omega (arith, count-more (c .count) k, t .room))
+              by-kind (λ j. countOf (with c k r .count) j ≤ roomOf j) k (omega (arith, count-more (c .count) k, t .next .room))
               (λ j o. omega (arith, count-other (c .count) k j o, s .room j));
-          fit = all-with (λ j i y. Fit j (rowOf j y)) (s .fit) (rowed (Fit k) (t .fit));
+          fit = all-with (λ j i y. Fit j (rowOf j y)) (s .fit) (subst (Fit k) (sym again) (t .fit));
           there =
               all-with (λ j i y. There (reach (with c k r .count) j i) j (rowOf j y))
               (λ j i h. there-more (reaches (more (c .count) k) j i) j (rowOf j (getD (listOf j (itemsOf c)) i (noItem j))) (s .there j i h))
-              (there-more (reaches-held (c .count) k) k (rowOf k x) (rowed (There (c .count) k) (t .there)));
-          read = all-with (λ j i y. itemOf j (rowOf j y) ≡ y) (s .read) (ap (itemOf k) (t .again));
+              (there-more (reaches-held (c .count) k) k (rowOf k x) (subst (There (c .count) k) (sym again) (t .next .there)));
+          read = all-with (λ j i y. itemOf j (rowOf j y) ≡ y) (s .read) (ap (itemOf k) again);
           ways = places-with .ways;
           loops = places-with .loops;
         }
@@ -247,22 +246,11 @@ sound-empty =
     none : (k : Kind) → countOf (emptyCase .count) k ≡ 0
     none k = sym (kept-counted emptyCase empty-kept k) ∙ ap length (empty-list k)
 
-taken-fits : (c : Case) (bs : List ℕ) (t : IsTaken c bs) → MayCome c (t .kind) (recordOf bs .fields)
-unfolding recordOf
-taken-fits c bs t =
-    record {
-      room = t .next .room;
-      fit = t .fit;
-      there = t .next .there;
-      again = fields-again (t .kind) (recordOf bs .fields) refl (t .fit);
-      place = t .next .place;
-    }
-
 pub sound-kept : (c : Case) (bs : List ℕ) → Sound c → Sound (takenOf c bs .case)
 sound-kept c bs s = go (isTaken (takenOf c bs .answer)) refl
   where
     go : (b : Bool) → isTaken (takenOf c bs .answer) ≡ b → Sound (takenOf c bs .case)
     go true e =
         let t = taken-with c bs e in
-        subst Sound (sym (t .case)) (sound-with c s (t .kind) (recordOf bs .fields) (taken-fits c bs t))
+        subst Sound (sym (t .case)) (sound-with c s bs t)
     go false e = subst Sound (sym (refused-same c bs e)) s

@@ -44,6 +44,10 @@ length-row : (b : List ℕ) → length (recordOf b .fields) ≡ fields
 unfolding recordOf
 length-row b = length-tab (fieldAt b) fields 0
 
+total-more : (n : Counts) (k : Kind) → countsTotal (oneMore n k) ≡ countsTotal n + 1
+unfolding sumOver
+total-more n k = over-more (countOf n) k
+
 empty-size : itemCount (itemsOf emptyCase) ≡ 0
 unfolding emptyCase sumOver
 empty-size = refl
@@ -83,10 +87,6 @@ module _ (c : Case) (b : List ℕ) (rs : List (List ℕ)) (t : IsTaken c b) wher
   kept-more s = subst Kept (sym (t .case)) (kept-with c (t .kind) (recordOf b .fields) s (t .next .room))
 
   -- there is one item more
-  total-more : (n : Counts) (k : Kind) → countsTotal (oneMore n k) ≡ countsTotal n + 1
-  unfolding sumOver
-  total-more n k = over-more (countOf n) k
-
   pub size-more : Kept c → itemCount (itemsOf (takenOf c b .case)) ≡ itemCount (itemsOf c) + 1
   size-more s =
       ap countsTotal (sym (kept-counts (takenOf c b .case) (kept-more s)))
