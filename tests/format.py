@@ -1,0 +1,324 @@
+#!/usr/bin/env python3
+"""format.py PROGRAM: docs/FORMAT.md, held against the program and the definitions.
+
+PROGRAM reads a case file from standard input and prints its line. Every example of the document, spelled by tools/case, gives its line; every
+result of answers/specs/Answers.antt has an example, and every form an accepted one whose root has it. The document's tables are tried: each
+range at both ends and one past them, each field blank that is needed and filled that must be blank, every choice of the fields that may be
+blank, and each kind with as many items as it may have and one more. Every definition that is cited is declared in its file.
+"""
+import collections
+import functools
+import itertools
+import os
+import pathlib
+import re
+import subprocess
+import sys
+
+ROOT = pathlib.Path(__file__).resolve().parent.parent
+DOCUMENT = ROOT / "docs" / "FORMAT.md"
+CRATES = ROOT / "crates"
+ANSWERS = "answers/specs/Answers.antt"
+JUDGED = "meaning/specs/Judged.antt"
+LENGTH = 58
+FIELDS = range(1, 9)
+SPELLED = range(-999999, 10000000)
+
+# What the document has at least. Whoever adds to it raises them.
+LEAST = {"examples": 69, "results": 18, "forms": 7, "spellings": 13, "rows": 26, "kinds": 5, "rules": 98, "citations": 190}
+
+CITATION = re.compile(r"\[`([a-z_]+/(?:specs|src)/\w+\.(?:antt|rt))`: (`[^`]+`(?:, `[^`]+`)*)\]")
+GIVES = re.compile(r"gives (\d+ \d+ \d+)(?: +with (.*?))? *(?:#.*)?")
+PUT = re.compile(r'put (\d+) (\d+) "(.*)"')
+CUT = re.compile(r"cut (\d+)")
+BUT = re.compile(r"(\d+) ([SGTFP].*)")
+
+# Of each kind: records to begin with, and the last of them as often as it takes.
+ROOM = {
+    "S": ["S 0"],
+    "G": ["G 0 0 0 0 0"],
+    "T": ["S 0", "T 0 0 0 0 0 0"],
+    "F": ["F 0"],
+    "P": ["S 0", "T 0 0 0 0 0 0", "P 0 . 0", "P 0 0 0"],
+}
+
+# A field by its table: the numbers that it may have; whether it is needed; the fields with which it is needed where it may be blank.
+Field = collections.namedtuple("Field", "low high needed beside")
+
+
+class Count:
+    """How many tests passed and failed, and how many there were of each sort of thing."""
+
+    def __init__(self):
+        self.passed = self.failed = 0
+        self.seen = collections.Counter()
+
+    def equal(self, name, want, got):
+        if want == got:
+            self.passed += 1
+        else:
+            self.failed += 1
+            print(f"format: {name}: expected {want!r:.400}, got {got!r:.400}")
+
+
+@functools.cache
+def spell(notation):
+    """The bytes that the notation spells."""
+    return subprocess.run([sys.executable, ROOT / "tools" / "case", "spell"], input=notation.encode(), stdout=subprocess.PIPE, check=True).stdout
+
+
+def cut(data):
+    """The records of a file."""
+    return [data[start:start + LENGTH] for start in range(0, len(data), LENGTH)]
+
+
+def answer(program, data):
+    return subprocess.run([program], input=data, stdout=subprocess.PIPE, check=True).stdout.decode("latin-1")
+
+
+def blocks(text, name):
+    """The fenced blocks with this name: the number of the line after the fence, and the lines."""
+    found, lines = [], None
+    for number, line in enumerate(text.split("\n"), 1):
+        if lines is None and line == "```" + name:
+            lines = []
+            found.append((number + 1, lines))
+        elif line.startswith("```"):
+            lines = None
+        elif lines is not None:
+            lines.append(line)
+    return found
+
+
+def table(text, head):
+    """The rows of the table whose first line begins so: their cells."""
+    lines = itertools.dropwhile(lambda line: not line.startswith(head), text.split("\n"))
+    rows = itertools.takewhile(lambda line: line.startswith("|"), lines)
+    return [[cell.strip() for cell in row.strip("|").split("|")] for row in itertools.islice(rows, 2, None)]
+
+
+# ---- examples
+
+
+def changed(data, change):
+    """The file after one change: a record in the place of another, bytes written into a record, or only so many bytes of the file."""
+    if put := PUT.fullmatch(change):
+        start, patch = int(put[1]) * LENGTH + int(put[2]), put[3].encode()
+    elif end := CUT.fullmatch(change):
+        return data[:int(end[1])]
+    elif but := BUT.fullmatch(change):
+        start, patch = int(but[1]) * LENGTH, spell(but[2])
+    else:
+        raise ValueError(f"no change of a case: {change}")
+    if start + len(patch) > len(data):
+        raise ValueError(f"past the end of the case: {change}")
+    return data[:start] + patch + data[start + len(patch):]
+
+
+def root_form(data):
+    """The form of a case's last sentence, as it is spelled."""
+    return [record[1:8].decode().strip() for record in cut(data) if record[:1] == b"F"][-1]
+
+
+def example(count, program, name, records, line):
+    """Runs the case of a block as a line of it gives it, and compares; the case, and the line that it says."""
+    gives = GIVES.fullmatch(line)
+    case = spell(records)
+    for change in re.split("; *", gives[2]) if gives[2] else []:
+        case = changed(case, change)
+    count.equal(name, gives[1] + "\n", answer(program, case))
+    count.seen["examples"] += 1
+    return case, gives[1]
+
+
+def examples(count, program, text):
+    """Runs the examples; the results that they give, and the forms of accepted roots."""
+    results, forms = set(), set()
+    for first, lines in blocks(text, "case"):
+        records = "\n".join(line for line in lines if not line.startswith("gives"))
+        count.equal(f"line {first}: the block ends with a line to give", True, lines[-1].startswith("gives"))
+        for number, line in enumerate(lines, first):
+            if not line.startswith("gives"):
+                continue
+            try:
+                case, said = example(count, program, f"line {number}", records, line)
+            except (TypeError, ValueError, subprocess.CalledProcessError) as error:
+                count.equal(f"line {number} can be read", True, error)
+                continue
+            results.add(int(said.split()[0]))
+            if said == "0 0 0":
+                forms.add(root_form(case))
+    return results, forms
+
+
+def spellings(count, program, text):
+    """Seven bytes as the bound of a guard: 14 where they are bad, 15 where they are blank, and else the guard is taken."""
+    lines = {"bad": "14 0 5\n", "blank": "15 0 5\n"}
+    for first, block in blocks(text, "spelling"):
+        for number, line in enumerate(block, first):
+            said = line.split('"')[-1].strip()
+            for field in re.findall('"(.{7})"', line):
+                got = answer(program, changed(spell("G 0 0 0 0 0"), f'put 0 29 "{field}"'))
+                count.equal(f"line {number}: {field!r}", lines.get(said, "24 1 0\n"), got)
+                if said not in lines:
+                    count.equal(f"line {number}: {field!r}", said, field.strip())
+                count.seen["spellings"] += 1
+
+
+# ---- the tables of kinds and fields
+
+
+def numbers(text):
+    return [int(number.replace(",", "")) for number in re.findall("-?[0-9][0-9,]*", text.replace(", ", " "))]
+
+
+def listed(text):
+    """The numbers of fields: "1 to 4", "2, 3", "5", "none"."""
+    ends = numbers(text)
+    return range(ends[0], ends[1] + 1) if " to " in text else ends
+
+
+def fields_of(text):
+    """The fields of each record of the table: of a kind, or of a sentence with its form."""
+    found = {}
+    for record, field, _, bounds, filled, _ in table(text, "| record | field |"):
+        rules = found.setdefault(record, {})
+        for number in listed(field):
+            low, high = numbers(bounds)
+            rules[number] = Field(low, high, filled == "needed", set(numbers(filled)))
+    return found
+
+
+def shapes(found):
+    """The kinds, and the forms of sentences: the letter, the fields, and a number that each may have."""
+    form = found["F"][1]
+    forms = {f"F {number}" for number in range(form.low, form.high + 1)}
+    if forms != {record for record in found if record[1:]}:
+        raise ValueError(f"the table's forms aren't {sorted(forms)}")
+    for record, rules in found.items():
+        if record in forms:
+            rules = {1: form, **rules}
+            yield "F", rules, {number: int(record[2:]) if number == 1 else rule.low for number, rule in rules.items()}
+        elif record != "F":
+            yield record, rules, {number: rule.low for number, rule in rules.items()}
+
+
+def choices(rules, right):
+    """Every choice of the fields that may be blank, and the lowest that is missing then, if any."""
+    needed = {number for number in rules if rules[number].needed}
+    optional = sorted(set(rules) - needed)
+    for chosen in itertools.chain.from_iterable(itertools.combinations(optional, size) for size in range(len(optional) + 1)):
+        missing = [number for number in optional if number not in chosen and rules[number].beside & set(chosen)]
+        yield {number: right[number] for number in needed | set(chosen)}, f"15 0 {missing[0]}" if missing else None
+
+
+def probes(letter, rules, right):
+    """Records of this shape by their fields, and the line of each; None where its fields are as they must be."""
+    yield from choices(rules, right)
+    for number in FIELDS:
+        if number not in rules:
+            yield {**right, number: 0}, f"15 0 {number}"
+            continue
+        low, high, needed, _ = rules[number]
+        if needed:
+            yield {field: right[field] for field in right if field != number}, f"15 0 {number}"
+        for outside in (low - 1, high + 1):
+            if outside in SPELLED:
+                yield {**right, number: outside}, f"16 0 {number}"
+        if (letter, number) != ("F", 1):
+            yield {**right, number: high}, None
+
+
+def tried(count, program, text):
+    """The table of fields, record by record. Of a record whose fields are as they must be, the line is a later result."""
+    tries = [(letter, *probe) for letter, rules, right in shapes(fields_of(text)) for probe in probes(letter, rules, right)]
+    records = [" ".join([letter] + [str(filled.get(number, ".")) for number in FIELDS]) for letter, filled, _ in tries]
+    for record, data, (_, _, want) in zip(records, cut(spell("\n".join(records))), tries):
+        got = answer(program, data).strip()
+        count.equal(f"table of fields: {record}", want, None if int(got.split()[0]) > 20 else got)
+        count.seen["records"] += 1
+    count.seen["rows"] = len(table(text, "| record | field |"))
+
+
+def rooms(count, program, text):
+    """The table of kinds: as many items as there may be are taken, and one more is refused."""
+    for letter, _, many, *_ in table(text, "| letter | kind |"):
+        records = list(ROOM[letter])
+        held = sum(record.startswith(letter) for record in records)
+        records += records[-1:] * (numbers(many)[1] + 1 - held)
+        data = spell("\n".join(records))
+        last = len(records) - 1
+        count.equal(f"table of kinds: {letter}, one too many", f"22 {last} 0\n", answer(program, data))
+        count.equal(f"table of kinds: {letter}", f"24 {last} 0\n", answer(program, data[:-LENGTH]))
+        count.seen["kinds"] += 1
+
+
+# ---- what is cited
+
+
+def declares(source, name):
+    """Whether a file declares the name: at the beginning of a line, after keywords, with a type, parameters or fields after it."""
+    words = "pub|abbrev|unfoldable|record|data|struct|enum|fn"
+    return bool(re.search(rf"^(?:(?:{words}) )+{re.escape(name)} ?[:({{]", source, re.M))
+
+
+def rules_of(text):
+    """What needs a citation: from the first section on each paragraph, and each row of a table that has a column for it."""
+    prose = re.sub("^```.*?^```$", "", text[text.index("\n## "):], flags=re.M | re.S)
+    for part in filter(None, map(str.strip, prose.split("\n\n"))):
+        lines = part.split("\n")
+        if lines[0].endswith("| carried by |"):
+            yield from lines[2:]
+        elif part[0] not in "#|":
+            yield part
+
+
+def citations(count, text):
+    """Every file that is named stands in a citation, and declares the names; every rule has a citation."""
+    for path, names in CITATION.findall(text):
+        file = CRATES / path
+        source = file.read_text(encoding="utf-8") if file.is_file() else ""
+        for name in re.findall("`([^`]+)`", names):
+            count.equal(f"{path} declares {name}", True, declares(source, name))
+            count.seen["citations"] += 1
+    count.equal("files named outside a citation", [], re.findall(r"[\w/]+\.(?:antt|rt)\b", CITATION.sub("", text)))
+    for rule in rules_of(text):
+        count.equal(f"carried by a definition: {rule:.60}", True, bool(CITATION.search(rule)))
+        count.seen["rules"] += 1
+
+
+def results_defined():
+    """The numbers of all results in their order: of the tests of a record, then of what a judgement says."""
+    answers, judged = ((CRATES / path).read_text(encoding="utf-8") for path in (ANSWERS, JUDGED))
+    told = dict(re.findall(r"^told \(?(\w+).* = \((\d+),", answers, re.M))
+    numbers_of = dict(re.findall(r"^numbersOf \(?(\w+).* = numbers (\d+)", answers, re.M))
+    tested = re.findall(r"[A-Z]\w+", re.search(r"^testOrder f =\n(.*)", answers, re.M)[1])
+    return [int(told[name]) for name in tested] + [int(numbers_of[name]) for name in re.findall(r"^Judged x θ \(?(\w+)", judged, re.M)]
+
+
+def main():
+    if len(sys.argv) != 2:
+        sys.exit(__doc__)
+    program, text, count = os.path.abspath(sys.argv[1]), DOCUMENT.read_text(encoding="utf-8"), Count()
+    count.equal("names of blocks", ["case", "spelling"], sorted(set(re.findall("^```(.+)$", text, re.M))))
+    results, forms = examples(count, program, text)
+    defined = results_defined()
+    count.equal("results with an example", sorted(defined), sorted(results))
+    count.equal("results in the table", defined, list(dict.fromkeys(int(row[0]) for row in table(text, "| result | what is wrong |"))))
+    form = fields_of(text)["F"][1]
+    count.equal("forms with an accepted example", [str(number) for number in range(form.low, form.high + 1)], sorted(forms))
+    spellings(count, program, text)
+    tried(count, program, text)
+    rooms(count, program, text)
+    citations(count, text)
+    count.seen.update(results=len(results), forms=len(forms))
+    for thing, least in LEAST.items():
+        count.equal(f"{thing}, at least {least}", True, count.seen[thing] >= least)
+    seen = ", ".join(f"{number} {thing}" for thing, number in count.seen.items())
+    print(f"format: {count.passed} passed, {count.failed} failed ({seen})")
+    if count.failed:
+        sys.exit(1)
+
+
+if __name__ == "__main__":
+    main()
