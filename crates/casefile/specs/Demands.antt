@@ -4,8 +4,8 @@
 -- Where demand 1 speaks of the case that is held, it is what `Case::take` and `Case::take_all` hand back (collector/src/lib.rt: `r ≡ takenOf ..`, `r ≡ collectedOf ..`).
 --
 -- To be read with this file, small crates of definitions that can be read whole, in this order:
--- record/specs (Spelling, Layout, Spell), kinds/specs (Kinds, Sorts, Table), items/specs (Items, Lists), answers/specs/Answers.antt, rules/specs, counters/specs/Sum.antt,
--- laws/specs/All.antt, meaning/specs (and of laws/specs `tab`, `nth` and `lowest`).
+-- record/specs (Spelling, Layout, Spell), kinds/specs (Kinds, Contents), table/specs (Sorts, Table), items/specs (Items, Lists), answers/specs/Answers.antt,
+-- rules/specs, counters/specs/Sum.antt, laws/specs/All.antt, meaning/specs (and of laws/specs `tab`, `nth` and `lowest`).
 -- Of the collector only `itemsOf` and `emptyCase` (collector/specs/Cases.antt): what a case holds, and the empty one.
 --
 -- Not to be read to believe them: the computation (how `answerOf`, `takenOf`, `collectedOf` and `verdict` work), and every crate of laws.

@@ -14,9 +14,9 @@ use Rattle.laws.specs.Members.{Has, all-has, has-all, all-map, gather-has, has-
 use Rattle.record.specs.Layout.{fields, recordOf, cut}
 use Rattle.kinds.specs.declared.Kind.{Kind}
 use Rattle.kinds.specs.declared.Kind.the-variants as kind
-use Rattle.kinds.specs.declared.Shape.{Shape}
 use Rattle.kinds.specs.Kinds.{countsTotal}
-use Rattle.kinds.specs.Table.{shapeOf}
+use Rattle.table.specs.declared.Shape.{Shape}
+use Rattle.table.specs.Table.{shapeOf}
 use Rattle.items.specs.declared.Ref.{Ref}
 use Rattle.items.specs.declared.Ref.the-variants as ref
 use Rattle.items.specs.Lists.{Items, listOf, countsOf, roomOf}

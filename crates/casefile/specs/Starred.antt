@@ -14,7 +14,7 @@ use Rattle.record.specs.Spell.{lastDigits, numeral}
 use Rattle.record.specs.Layout.{fieldAt, recordOf, cutFrom, cut}
 use Rattle.kinds.specs.Kinds.{kindIn}
 use Rattle.kinds.specs.Last.{lastBelow}
-use Rattle.kinds.specs.Table.{shapeOf, ruleAt}
+use Rattle.table.specs.Table.{shapeOf, ruleAt}
 use Rattle.counters.specs.Sum.{sum}
 use Rattle.items.specs.Items.{perCounter, stateOf, guardOf, moveOf, formOf, sentenceOf, markOf, placeOf}
 use Rattle.checks.specs.Faults.{lowestFault}

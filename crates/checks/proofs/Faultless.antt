@@ -12,16 +12,17 @@ use Rattle.record.specs.declared.Record.{Record}
 use Rattle.record.specs.Layout.{fields, at}
 use Rattle.kinds.specs.declared.Counts.{Counts}
 use Rattle.kinds.specs.declared.Kind.the-variants.{Sentence}
-use Rattle.kinds.specs.declared.Sort.{Sort}
-use Rattle.kinds.specs.declared.Sort.the-variants.{Within, Marks, Reference}
-use Rattle.kinds.specs.Sorts as sort
-use Rattle.kinds.specs.declared.Rule.{Rule}
-use Rattle.kinds.specs.declared.Rule.the-variants.{Blank, Needed, Optional}
-use Rattle.kinds.specs.declared.Shape.{Shape}
-use Rattle.kinds.specs.Kinds.{same}
+use Rattle.kinds.specs.Kinds.{same, counters}
 use Rattle.kinds.specs.Laws.{same-is}
-use Rattle.kinds.specs.Sorts.{rangeOf}
-use Rattle.kinds.specs.Table.{ruleAt, rulesOf, counters, inFilled, isNumber}
+use Rattle.kinds.specs.Contents.{isNumber}
+use Rattle.table.specs.declared.Sort.{Sort}
+use Rattle.table.specs.declared.Sort.the-variants.{Within, Marks, Reference}
+use Rattle.table.specs.Sorts as sort
+use Rattle.table.specs.declared.Rule.{Rule}
+use Rattle.table.specs.declared.Rule.the-variants.{Blank, Needed, Optional}
+use Rattle.table.specs.declared.Shape.{Shape}
+use Rattle.table.specs.Sorts.{rangeOf}
+use Rattle.table.specs.Table.{ruleAt, rulesOf, inFilled}
 use Rattle.checks.specs.declared.Fault.{Fault}
 use Rattle.checks.specs.declared.Fault.the-variants as fault
 use Rattle.answers.specs.declared.Answer.the-variants.{Taken}

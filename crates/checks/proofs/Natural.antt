@@ -11,7 +11,7 @@ use lib.Signed.{ltZ, leZ, pos-natAbs}
 use borrow.Author.Tests.{ltb-true, lt-ltb, leb-true, leb-false, lt-leb}
 use Rattle.record.specs.declared.Content.{Content}
 use Rattle.record.specs.declared.Content.the-variants.{Blank, Number, Bad}
-use Rattle.kinds.specs.Table.{natural}
+use Rattle.kinds.specs.Contents.{natural}
 use Rattle.kinds.proofs.Natural.{not-below}
 use Rattle.checks.specs.Faults.{atLeast}
 

@@ -10,15 +10,16 @@ use Rattle.record.specs.declared.Content.the-variants as content
 use Rattle.record.specs.declared.Record.{Record}
 use Rattle.record.specs.Layout.{fields, at}
 use Rattle.kinds.specs.declared.Counts.{Counts}
-use Rattle.kinds.specs.declared.Range.{Range}
-use Rattle.kinds.specs.declared.Sort.{Sort}
-use Rattle.kinds.specs.declared.Sort.the-variants.{Within, Marks, Reference}
-use Rattle.kinds.specs.declared.Rule.{Rule}
-use Rattle.kinds.specs.declared.Rule.the-variants.{Blank, Needed, Optional}
-use Rattle.kinds.specs.declared.Shape.{Shape}
 use Rattle.kinds.specs.Kinds.{countOf}
-use Rattle.kinds.specs.Sorts.{rangeOf}
-use Rattle.kinds.specs.Table.{isBlank, isNumber, ruleAt}
+use Rattle.kinds.specs.Contents.{isBlank, isNumber}
+use Rattle.table.specs.declared.Range.{Range}
+use Rattle.table.specs.declared.Sort.{Sort}
+use Rattle.table.specs.declared.Sort.the-variants.{Within, Marks, Reference}
+use Rattle.table.specs.declared.Rule.{Rule}
+use Rattle.table.specs.declared.Rule.the-variants.{Blank, Needed, Optional}
+use Rattle.table.specs.declared.Shape.{Shape}
+use Rattle.table.specs.Sorts.{rangeOf}
+use Rattle.table.specs.Table.{ruleAt}
 use Rattle.checks.specs.declared.Fault.{Fault}
 use Rattle.checks.specs.declared.Fault.the-variants as fault
 

@@ -9,10 +9,10 @@ use Rattle.record.specs.Layout.{fields, at, recordLength, lineFeed}
 use Rattle.kinds.specs.declared.Kind.the-variants.{Sentence}
 use Rattle.kinds.specs.declared.Letter.{Letter}
 use Rattle.kinds.specs.declared.Letter.the-variants.{Names, Unknown}
-use Rattle.kinds.specs.declared.Rule.the-variants as rule
-use Rattle.kinds.specs.Sorts as sort
-use Rattle.kinds.specs.declared.Shape.{Shape}
 use Rattle.kinds.specs.Kinds.{kindOf, same}
+use Rattle.table.specs.declared.Rule.the-variants as rule
+use Rattle.table.specs.Sorts as sort
+use Rattle.table.specs.declared.Shape.{Shape}
 use Rattle.answers.specs.declared.Answer.{Answer}
 use Rattle.answers.specs.declared.Answer.the-variants as answer
 use Rattle.checks.specs.declared.Fault.the-variants as fault

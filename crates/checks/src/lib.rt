@@ -1,19 +1,19 @@
 // What can be wrong with a field, and the results that come from the input (11 to 16).
 ghost use mathlib.Core.Path.{_≡_};
 ghost use Prim.Native.Nat.{_^_};
-ghost use Rattle.kinds.specs.Table.{isBlank};
+ghost use Rattle.kinds.specs.Contents.{isBlank};
 ghost use Rattle.checks.specs.Faults.{misspelled, missing, extra, beyond, outside, atLeast, dangling, notThere, hasFault, lowestFault, good, faultFree, faultless};
 ghost use Rattle.checks.specs.Input.{wrongForm, fieldsAnswer, headOf};
 use answers::Answer;
 use kinds::Counts;
 use kinds::Kind;
 use kinds::Letter;
-use kinds::Range;
-use kinds::Rule;
-use kinds::Shape;
-use kinds::Sort;
 use record::Content;
 use record::Record;
+use table::Range;
+use table::Rule;
+use table::Shape;
+use table::Sort;
 
 // What can be wrong with a field.
 pub enum Fault {
@@ -96,8 +96,8 @@ fn is_outside(rule: Rule, content: Content) -> bool
 {
     match rule {
         Rule::Blank => false,
-        Rule::Needed(sort) => is_beyond(kinds::range_of(sort), content),
-        Rule::Optional(sort) => is_beyond(kinds::range_of(sort), content),
+        Rule::Needed(sort) => is_beyond(table::range_of(sort), content),
+        Rule::Optional(sort) => is_beyond(table::range_of(sort), content),
     }
 }
 
@@ -172,7 +172,7 @@ pub fn lowest_fault(fault: Fault, shape: Shape, row: Record) -> usize
     while k <= Record::FIELDS {
         let field = fields[k - 1];
         let content = field.content;
-        if has_fault(fault, kinds::rule_at(shape, k), content) {
+        if has_fault(fault, table::rule_at(shape, k), content) {
             return k;
         }
         k = k + 1;
@@ -225,7 +225,7 @@ pub fn fields_answer(shape: Shape, row: Record) -> Answer
 fn is_good(counts: Counts, sort: Sort, content: Content) -> bool
     ensures { λ r. ⌜ r ≡ good counts sort content ⌝ }
 {
-    if is_beyond(kinds::range_of(sort), content) {
+    if is_beyond(table::range_of(sort), content) {
         return false;
     }
     if is_dangling(counts, sort, content) {
@@ -260,7 +260,7 @@ pub fn fits(counts: Counts, shape: Shape, row: Record) -> bool
     while k <= Record::FIELDS {
         let field = fields[k - 1];
         let content = field.content;
-        if is_right(counts, kinds::rule_at(shape, k), content) {
+        if is_right(counts, table::rule_at(shape, k), content) {
             k = k + 1;
         } else {
             return false;

@@ -17,7 +17,7 @@ use Rattle.kinds.specs.declared.Letter.{Letter}
 use Rattle.kinds.specs.declared.Letter.the-variants.{Names, Unknown}
 use Rattle.kinds.specs.Kinds.{kindOf, rankOf, countOf}
 use Rattle.kinds.specs.Last.{lastRank}
-use Rattle.kinds.specs.Table.{shapeOf}
+use Rattle.table.specs.Table.{shapeOf}
 use Rattle.checks.specs.declared.Head.{Head}
 use Rattle.checks.specs.declared.Head.the-variants.{Of, Refused}
 use Rattle.answers.specs.declared.Answer.{Answer}

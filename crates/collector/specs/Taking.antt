@@ -9,10 +9,11 @@ use Rattle.record.specs.Layout.{at, recordOf, cut}
 use Rattle.kinds.specs.declared.Kind.{Kind}
 use Rattle.kinds.specs.declared.Kind.the-variants as kind
 use Rattle.kinds.specs.declared.Counts.{Counts}
-use Rattle.kinds.specs.declared.Shape.{Shape}
 use Rattle.kinds.specs.Kinds.{rankOf, countOf, same}
 use Rattle.kinds.specs.Last.{lastRank}
-use Rattle.kinds.specs.Table.{natural, isNumber, isBlank, shapeOf}
+use Rattle.kinds.specs.Contents.{natural, isNumber, isBlank}
+use Rattle.table.specs.declared.Shape.{Shape}
+use Rattle.table.specs.Table.{shapeOf}
 use Rattle.items.specs.Lists.{roomOf}
 use Rattle.answers.specs.declared.Answer.{Answer}
 use Rattle.answers.specs.declared.Answer.the-variants.{Taken, OutOfOrder, NoRoom, NotThere, Misplaced, WrongWayIn}

@@ -6,7 +6,7 @@ ghost use Prim.Native.Nat.{_+_, _-_, _≤_, _<_, _^_, min};
 ghost use Rattle.record.specs.Layout.{recordLength};
 ghost use Rattle.kinds.specs.declared.Kind.the-variants as kind;
 ghost use Rattle.kinds.specs.Kinds.{countOf};
-ghost use Rattle.kinds.specs.Table.{shapeOf};
+ghost use Rattle.table.specs.Table.{shapeOf};
 ghost use Rattle.checks.specs.declared.Fault.the-variants as fault;
 ghost use Rattle.checks.specs.Faults.{lowestFault};
 ghost use Rattle.collector.specs.Cases.{emptyCase, loopsAfter};
@@ -211,7 +211,7 @@ fn state_answer(count: Counts, loops: Loops, kind: Kind, row: Record, absent: us
 fn ordered_answer(count: Counts, loops: Loops, kind: Kind, row: Record) -> Answer
     ensures { λ r. ⌜ r ≡ recordAnswer count loops kind row ⌝ }
 {
-    let shape = kinds::shape_of(kind, row);
+    let shape = table::shape_of(kind, row);
     let answer = checks::fields_answer(shape, row);
     if answers::is_taken(answer) {
         let absent = checks::lowest_fault(Fault::NotThere(count), shape, row);
@@ -224,7 +224,7 @@ fn ordered_answer(count: Counts, loops: Loops, kind: Kind, row: Record) -> Answe
 fn answer_of(count: Counts, loops: Loops, kind: Kind, row: Record) -> Answer
     ensures { λ r. ⌜ r ≡ recordAnswer count loops kind row ⌝ }
 {
-    let shape = kinds::shape_of(kind, row);
+    let shape = table::shape_of(kind, row);
     if checks::fits(count, shape, row) {
         return state_answer(count, loops, kind, row, Record::FIELDS + 1);
     }

@@ -6,7 +6,7 @@ use native.Mathlib.Omega.{arith}
 use lib.IntN.{ℤ, pos, _+ℤ_, _*ℤ_, +ℤ-assoc, +ℤ-idl, +ℤ-idr}
 use lib.ListN.{length, getD, take}
 use Rattle.laws.specs.Tab.{tab, at-tab}
-use Rattle.kinds.specs.Table.{counters}
+use Rattle.kinds.specs.Kinds.{counters}
 use Rattle.counters.specs.declared.Counters.{Counters}
 use Rattle.counters.specs.Sum.{sum}
 

@@ -3,7 +3,7 @@ ghost use mathlib.Core.Path.{_≡_};
 ghost use Prim.Native.Nat.{ℕ, _+_, _*_, _<_, _^_};
 ghost use lib.IntN.{pos, _+ℤ_, _*ℤ_};
 ghost use Rattle.laws.specs.Sizes.{size};
-ghost use Rattle.kinds.specs.Table.{counters};
+ghost use Rattle.kinds.specs.Kinds.{counters};
 ghost use Rattle.counters.specs.Vectors.{valueAt, vec};
 ghost use Rattle.counters.specs.Bounds.{sizes};
 ghost use Rattle.counters.specs.Sum.{sum};

@@ -13,7 +13,8 @@ use Rattle.record.specs.Layout.{fields, at}
 use Rattle.kinds.specs.declared.Kind.{Kind}
 use Rattle.kinds.specs.declared.Kind.the-variants as kind
 use Rattle.kinds.specs.declared.PerCounter.{PerCounter}
-use Rattle.kinds.specs.Table.{natural, counters}
+use Rattle.kinds.specs.Kinds.{counters}
+use Rattle.kinds.specs.Contents.{natural}
 use Rattle.items.specs.declared.Ref.{Ref}
 use Rattle.items.specs.declared.Ref.the-variants as ref
 use Rattle.items.specs.declared.Term.{Term}

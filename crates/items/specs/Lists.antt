@@ -6,8 +6,7 @@ use lib.ListN.{length, replicate}
 use Rattle.kinds.specs.declared.Counts.{Counts}
 use Rattle.kinds.specs.declared.Kind.{Kind}
 use Rattle.kinds.specs.declared.Kind.the-variants as kind
-use Rattle.kinds.specs.Table.{counters}
-use Rattle.kinds.specs.Kinds.{countsBy}
+use Rattle.kinds.specs.Kinds.{countsBy, counters}
 use Rattle.items.specs.declared.Guard.{Guard}
 use Rattle.items.specs.declared.Move.{Move}
 use Rattle.items.specs.declared.Place.{Place}

@@ -2,7 +2,7 @@
 ghost use mathlib.Core.Path.{_≡_};
 ghost use Prim.Native.Nat.{_+_, _≤_, _<_};
 ghost use Rattle.record.specs.Layout.{at, fields};
-ghost use Rattle.kinds.specs.Table.{counters};
+ghost use Rattle.kinds.specs.Kinds.{counters};
 ghost use Rattle.items.specs.Items.{byteOf, integerOf, shortOf, perCounter, refOf, termOf, stateOf, guardOf, moveOf, formOf, sentenceOf, markOf, placeOf};
 use kinds::PerCounter;
 use record::Content;

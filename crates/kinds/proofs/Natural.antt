@@ -8,7 +8,7 @@ use lib.IntN.{ℤ, pos, negsuc, natAbs}
 use lib.Signed.{ltZ, nonNeg}
 use borrow.Author.Tests.{ltb-true}
 use Rattle.record.specs.declared.Content.the-variants.{Number}
-use Rattle.kinds.specs.Table.{natural}
+use Rattle.kinds.specs.Contents.{natural}
 
 pub below : (z : ℤ) → ltZ z (pos 0) ≡ true → 0 ≡ natural (Number z)
 below (pos n) e = absurd (let h : n < 0 = ltb-true n 0 e in omega arith)

@@ -1,4 +1,4 @@
--- The kinds of records: their letters, and the order in which they come.
+-- The kinds of records: their letters, the order in which they come, and how many items of each there are. The number of counters.
 use mathlib.Core.List.{List, [], _∷_}
 use mathlib.Core.Bool.{Bool, cond}
 use Prim.Native.Nat.{ℕ}
@@ -62,3 +62,7 @@ overKinds f = sumOver f allKinds
 -- how many items are held
 abbrev pub countsTotal : Counts → ℕ
 countsTotal n = overKinds (countOf n)
+
+-- the number of counters
+abbrev pub counters : ℕ
+counters = 4

@@ -1,5 +1,4 @@
 pub mod Kinds
-pub mod Sorts
-pub mod Table
+pub mod Contents
 pub mod Last
 pub mod Laws

@@ -7,7 +7,7 @@ use lib.ListN.{getD}
 use Rattle.laws.specs.Sizes.{size, add-size, Within, within-size}
 use Rattle.laws.specs.Tests.{cond-by}
 use Rattle.kinds.specs.declared.Kind.the-variants as kind
-use Rattle.kinds.specs.Table.{ruleAt, shapeOf}
+use Rattle.table.specs.Table.{ruleAt, shapeOf}
 use Rattle.items.specs.declared.Term.{Term}
 use Rattle.items.specs.declared.Term.the-variants as term
 use Rattle.items.specs.declared.Form.{Form}

@@ -14,10 +14,10 @@ use Rattle.record.specs.Layout.{fields, recordOf}
 use Rattle.kinds.specs.declared.Kind.{Kind}
 use Rattle.kinds.specs.declared.Kind.the-variants.{Place}
 use Rattle.kinds.specs.declared.Counts.{Counts}
-use Rattle.kinds.specs.Sorts.{Rounds, rangeOf}
 use Rattle.kinds.specs.Kinds.{same}
 use Rattle.kinds.specs.Laws.{one-kind}
-use Rattle.kinds.specs.Table.{shapeOf, ruleAt}
+use Rattle.table.specs.Sorts.{Rounds, rangeOf}
+use Rattle.table.specs.Table.{shapeOf, ruleAt}
 use Rattle.items.specs.Items.{placeOf, markOf}
 use Rattle.answers.specs.Answers.{isTaken}
 use Rattle.checks.specs.declared.Fault.{Fault}

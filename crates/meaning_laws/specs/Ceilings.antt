@@ -12,7 +12,7 @@ use lib.IntN.{ℤ}
 use borrow.Author.Tests.{ltb-true, ltb-false}
 use Rattle.laws.specs.Sizes.{size, Within, add-size, within-size, size-within}
 use Rattle.laws.specs.Tests.{cond-by}
-use Rattle.kinds.specs.Table as table
+use Rattle.kinds.specs.Kinds as kinds
 use Rattle.counters.specs.Sum.{Valuation, sum}
 use Rattle.counters.specs.Bounds.{sum-size, sizes-le}
 use Rattle.items.specs.declared.LoopMark.{LoopMark}
@@ -96,11 +96,11 @@ module _ (x : Items) (f : Facts x) (θ : Valuation) (b : ℕ) (start : (j : ℕ)
     pub counter-ceiling : (j : ℕ) → Within (640000000000 + b) (countersAt x θ m j)
     counter-ceiling j = size-within (640000000000 + b) (countersAt x θ m j) (counter-small j)
 
-    pub sum-ceiling : (g : ℕ) → Within (3000000000000000 + table.counters * 999 * b) (sum (guardAt (x .guards) g .coefficients .at) (countersAt x θ m))
+    pub sum-ceiling : (g : ℕ) → Within (3000000000000000 + kinds.counters * 999 * b) (sum (guardAt (x .guards) g .coefficients .at) (countersAt x θ m))
     sum-ceiling g =
         let l : List ℤ = guardAt (x .guards) g .coefficients .at in
         let c = f .coefficients g in
-        size-within (3000000000000000 + table.counters * 999 * b) (sum l (countersAt x θ m))
+        size-within (3000000000000000 + kinds.counters * 999 * b) (sum l (countersAt x θ m))
         (omega (
           arith,
           sum-size l (countersAt x θ m),

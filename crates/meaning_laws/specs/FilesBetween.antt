@@ -25,7 +25,8 @@ use Rattle.kinds.specs.declared.Kind.{Kind}
 use Rattle.kinds.specs.declared.Kind.the-variants as kind
 use Rattle.kinds.specs.Kinds.{letterOf}
 use Rattle.kinds.specs.Laws.{one-kind}
-use Rattle.kinds.specs.Table.{isBlank, natural, shapeOf, ruleAt}
+use Rattle.kinds.specs.Contents.{isBlank, natural}
+use Rattle.table.specs.Table.{shapeOf, ruleAt}
 use Rattle.items.specs.declared.LoopMark.the-variants as mark
 use Rattle.items.specs.declared.Place.{Place}
 use Rattle.items.specs.Items.{itemOf, markOf, placeOf, byteOf}

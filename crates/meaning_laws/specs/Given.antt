@@ -23,14 +23,15 @@ use Rattle.record.specs.Layout.{at}
 use Rattle.kinds.specs.declared.Kind.{Kind}
 use Rattle.kinds.specs.declared.Kind.the-variants as kind
 use Rattle.kinds.specs.declared.Counts.{Counts}
-use Rattle.kinds.specs.declared.Sort.{Sort}
-use Rattle.kinds.specs.declared.Sort.the-variants.{Reference}
-use Rattle.kinds.specs.Sorts as sort
-use Rattle.kinds.specs.declared.Rule.{Rule}
-use Rattle.kinds.specs.declared.Rule.the-variants as rule
-use Rattle.kinds.specs.Kinds.{countOf}
-use Rattle.kinds.specs.Sorts.{rangeOf, fromTo}
-use Rattle.kinds.specs.Table.{counters, isNumber, neededIf, guardRow, moveRow, inFilled, ruleAt, shapeOf}
+use Rattle.kinds.specs.Kinds.{countOf, counters}
+use Rattle.kinds.specs.Contents.{isNumber}
+use Rattle.table.specs.declared.Sort.{Sort}
+use Rattle.table.specs.declared.Sort.the-variants.{Reference}
+use Rattle.table.specs.Sorts as sort
+use Rattle.table.specs.declared.Rule.{Rule}
+use Rattle.table.specs.declared.Rule.the-variants as rule
+use Rattle.table.specs.Sorts.{rangeOf, fromTo}
+use Rattle.table.specs.Table.{neededIf, guardRow, moveRow, inFilled, ruleAt, shapeOf}
 use Rattle.items.specs.declared.Ref.{Ref}
 use Rattle.items.specs.declared.Ref.the-variants as ref
 use Rattle.items.specs.declared.Term.{Term}

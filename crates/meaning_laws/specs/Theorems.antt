@@ -15,7 +15,7 @@ use Rattle.record.specs.Layout.{recordLength, cut}
 use Rattle.record.specs.Spell.{IsSpelling}
 use Rattle.kinds.specs.declared.Kind.the-variants as kind
 use Rattle.kinds.specs.Kinds.{letterOf}
-use Rattle.kinds.specs.Table as table
+use Rattle.kinds.specs.Kinds as kinds
 use Rattle.counters.specs.Sum.{Valuation, sum}
 use Rattle.items.specs.declared.LoopMark.the-variants as mark
 use Rattle.items.specs.declared.Guard.{Guard}
@@ -85,7 +85,7 @@ counter-ceiling-from c s = ceilings.counter-ceiling (itemsOf c) (facts c s)
 
 pub sum-ceiling-from : (c : Case) → Sound c → (θ : Valuation) (b : ℕ) → ((j : ℕ) → Within b (θ j)) →
     (m : Moment) → Early (itemsOf c .places) m → (g : ℕ) →
-    Within (3000000000000000 + table.counters * 999 * b) (sum (guardAt (itemsOf c .guards) g .coefficients .at) (countersAt (itemsOf c) θ m))
+    Within (3000000000000000 + kinds.counters * 999 * b) (sum (guardAt (itemsOf c .guards) g .coefficients .at) (countersAt (itemsOf c) θ m))
 sum-ceiling-from c s = ceilings.sum-ceiling (itemsOf c) (facts c s)
 
 -- as each case starts

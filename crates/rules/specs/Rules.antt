@@ -15,14 +15,15 @@ use Rattle.record.specs.Layout.{recordLength, lineFeed, recordOf, at}
 use Rattle.kinds.specs.declared.Kind.{Kind}
 use Rattle.kinds.specs.declared.Kind.the-variants as kind
 use Rattle.kinds.specs.declared.Counts.{Counts}
-use Rattle.kinds.specs.declared.Sort.{Sort}
-use Rattle.kinds.specs.declared.Sort.the-variants.{Marks, Reference}
-use Rattle.kinds.specs.Sorts.{Form, rangeOf}
-use Rattle.kinds.specs.declared.Rule.{Rule}
-use Rattle.kinds.specs.declared.Rule.the-variants as rule
-use Rattle.kinds.specs.declared.Rule.the-variants.{Needed, Optional}
 use Rattle.kinds.specs.Kinds.{letterOf, rankOf, countOf}
-use Rattle.kinds.specs.Table.{shapeOf, ruleAt, natural}
+use Rattle.kinds.specs.Contents.{natural}
+use Rattle.table.specs.declared.Sort.{Sort}
+use Rattle.table.specs.declared.Sort.the-variants.{Marks, Reference}
+use Rattle.table.specs.Sorts.{Form, rangeOf}
+use Rattle.table.specs.declared.Rule.{Rule}
+use Rattle.table.specs.declared.Rule.the-variants as rule
+use Rattle.table.specs.declared.Rule.the-variants.{Needed, Optional}
+use Rattle.table.specs.Table.{shapeOf, ruleAt}
 use Rattle.items.specs.declared.LoopMark.{LoopMark}
 use Rattle.items.specs.declared.LoopMark.the-variants as mark
 use Rattle.items.specs.declared.Place.{Place}

@@ -20,14 +20,16 @@ use Rattle.record.specs.declared.Field.{Field}
 use Rattle.record.specs.Layout.{fields, at}
 use Rattle.kinds.specs.declared.Kind.{Kind}
 use Rattle.kinds.specs.declared.Kind.the-variants as kind
-use Rattle.kinds.specs.declared.Sort.{Sort}
-use Rattle.kinds.specs.declared.Sort.the-variants.{Marks, Reference}
-use Rattle.kinds.specs.Sorts as sort
-use Rattle.kinds.specs.declared.Rule.{Rule}
-use Rattle.kinds.specs.declared.Rule.the-variants as rule
-use Rattle.kinds.specs.Table as table
-use Rattle.kinds.specs.Sorts.{rangeOf}
-use Rattle.kinds.specs.Table.{counters, natural, isNumber, neededIf, inFilled, shapeOf, ruleAt}
+use Rattle.kinds.specs.Kinds.{counters}
+use Rattle.kinds.specs.Contents.{natural, isNumber}
+use Rattle.table.specs.declared.Sort.{Sort}
+use Rattle.table.specs.declared.Sort.the-variants.{Marks, Reference}
+use Rattle.table.specs.Sorts as sort
+use Rattle.table.specs.declared.Rule.{Rule}
+use Rattle.table.specs.declared.Rule.the-variants as rule
+use Rattle.table.specs.Table as table
+use Rattle.table.specs.Sorts.{rangeOf}
+use Rattle.table.specs.Table.{neededIf, inFilled, shapeOf, ruleAt}
 use Rattle.items.specs.Items.{itemOf, rowOf, byteOf, integerOf, shortOf, perCounter, refOf, termOf, markOf, stateOf, guardOf, moveOf, formOf, sentenceOf, placeOf, integer, number, blank, reference, termFields, markFields}
 use Rattle.checks.specs.Faults.{misspelled, missing, extra, outside, beyond}
 use Rattle.collector.specs.Sound.{shape, Fit}

@@ -13,13 +13,14 @@ use Rattle.laws.specs.Tests.{Tells, cond-by, tells-lt, tells-le, tells-and, tel
 use Rattle.record.specs.Layout.{recordLength, lineFeed, recordOf}
 use Rattle.kinds.specs.declared.Kind.{Kind}
 use Rattle.kinds.specs.declared.Kind.the-variants.{Sentence, Place}
-use Rattle.kinds.specs.declared.Shape.{Shape}
-use Rattle.kinds.specs.declared.Rule.the-variants.{Needed}
-use Rattle.kinds.specs.Sorts.{Form}
 use Rattle.kinds.specs.Kinds.{letterOf, rankOf, same, countOf}
 use Rattle.kinds.specs.Last.{lastRank}
 use Rattle.kinds.specs.Laws.{one-kind, same-is, tells-last}
-use Rattle.kinds.specs.Table.{shapeOf, ruleAt, natural, isNumber}
+use Rattle.kinds.specs.Contents.{natural, isNumber}
+use Rattle.table.specs.declared.Shape.{Shape}
+use Rattle.table.specs.declared.Rule.the-variants.{Needed}
+use Rattle.table.specs.Sorts.{Form}
+use Rattle.table.specs.Table.{shapeOf, ruleAt}
 use Rattle.items.specs.Lists.{Items, listOf, countsOf, roomOf}
 use Rattle.items.specs.Laws.{counted-of}
 use Rattle.answers.specs.declared.Answer.{Answer}

@@ -20,7 +20,8 @@ use Rattle.kinds.specs.declared.Counts.{Counts}
 use Rattle.kinds.specs.Kinds.{allKinds, countOf, overKinds, countsTotal, same, letterOf, rankOf}
 use Rattle.kinds.specs.Laws.{same-self, by-kind, count-own, count-rest, counts-same}
 use Rattle.kinds.specs.Last.{lastRank}
-use Rattle.kinds.specs.Table.{shapeOf, natural, isNumber, isBlank}
+use Rattle.kinds.specs.Contents.{natural, isNumber, isBlank}
+use Rattle.table.specs.Table.{shapeOf}
 use Rattle.items.specs.Items.{Item, itemOf, placeOf}
 use Rattle.items.specs.Lists.{Items, listOf, itemsBy, countsOf, roomOf, noItem}
 use Rattle.items.specs.Laws.{list-by, items-same, counted-of}

@@ -20,10 +20,11 @@ use Rattle.record.specs.Layout.{at, recordOf}
 use Rattle.kinds.specs.declared.Kind.{Kind}
 use Rattle.kinds.specs.declared.Kind.the-variants as kind
 use Rattle.kinds.specs.declared.Counts.{Counts}
-use Rattle.kinds.specs.Sorts as sort
 use Rattle.kinds.specs.Kinds.{countOf, same}
 use Rattle.kinds.specs.Laws.{same-is, by-kind, count-own, count-rest}
-use Rattle.kinds.specs.Table.{natural, isNumber, isBlank, neededIf, inFilled, ruleAt, shapeOf}
+use Rattle.kinds.specs.Contents.{natural, isNumber, isBlank}
+use Rattle.table.specs.Sorts as sort
+use Rattle.table.specs.Table.{neededIf, inFilled, ruleAt, shapeOf}
 use Rattle.items.specs.declared.Ref.{Ref}
 use Rattle.items.specs.declared.Ref.the-variants as ref
 use Rattle.items.specs.declared.LoopMark.{LoopMark}

@@ -19,14 +19,14 @@ use Rattle.record.specs.declared.Field.{Field}
 use Rattle.record.specs.Layout.{fields, fieldAt, recordOf, at}
 use Rattle.kinds.specs.declared.Kind.{Kind}
 use Rattle.kinds.specs.declared.Kind.the-variants.{Sentence}
-use Rattle.kinds.specs.declared.Rule.{Rule}
-use Rattle.kinds.specs.declared.Rule.the-variants as rule
-use Rattle.kinds.specs.declared.Rule.the-variants.{Needed}
-use Rattle.kinds.specs.Sorts.{Form}
-use Rattle.kinds.specs.declared.Shape.{Shape}
-use Rattle.kinds.specs.Kinds.{same}
+use Rattle.kinds.specs.Kinds.{same, counters}
 use Rattle.kinds.specs.Laws.{by-kind, every}
-use Rattle.kinds.specs.Table.{formRows, rulesOf, ruleAt, counters, inFilled}
+use Rattle.table.specs.declared.Rule.{Rule}
+use Rattle.table.specs.declared.Rule.the-variants as rule
+use Rattle.table.specs.declared.Rule.the-variants.{Needed}
+use Rattle.table.specs.Sorts.{Form}
+use Rattle.table.specs.declared.Shape.{Shape}
+use Rattle.table.specs.Table.{formRows, rulesOf, ruleAt, inFilled}
 use Rattle.items.specs.Lists.{Items}
 use Rattle.answers.specs.declared.Answer.{Answer}
 use Rattle.answers.specs.declared.Answer.the-variants.{Taken}

@@ -20,15 +20,16 @@ use Rattle.record.specs.Layout.{at}
 use Rattle.kinds.specs.declared.Kind.{Kind}
 use Rattle.kinds.specs.declared.Kind.the-variants as kind
 use Rattle.kinds.specs.declared.Counts.{Counts}
-use Rattle.kinds.specs.declared.Sort.{Sort}
-use Rattle.kinds.specs.declared.Sort.the-variants.{Within, Marks, Reference}
-use Rattle.kinds.specs.Sorts as sort
-use Rattle.kinds.specs.declared.Rule.{Rule}
-use Rattle.kinds.specs.declared.Rule.the-variants.{Blank, Needed, Optional}
 use Rattle.kinds.specs.Kinds.{letterOf, countOf, same}
 use Rattle.kinds.specs.Laws.{same-is}
-use Rattle.kinds.specs.Sorts.{rangeOf}
-use Rattle.kinds.specs.Table.{isBlank, isNumber, shapeOf}
+use Rattle.kinds.specs.Contents.{isBlank, isNumber}
+use Rattle.table.specs.declared.Sort.{Sort}
+use Rattle.table.specs.declared.Sort.the-variants.{Within, Marks, Reference}
+use Rattle.table.specs.Sorts as sort
+use Rattle.table.specs.declared.Rule.{Rule}
+use Rattle.table.specs.declared.Rule.the-variants.{Blank, Needed, Optional}
+use Rattle.table.specs.Sorts.{rangeOf}
+use Rattle.table.specs.Table.{shapeOf}
 use Rattle.checks.specs.Faults.{misspelled, missing, extra, beyond, outside, atLeast, dangling, notThere}
 use Rattle.checks.specs.Input.{wrongForm}
 use Rattle.rules.specs.Rules.{Allows, IsNumber, InRange, IsBad, IsMissing, IsExtra, IsOutside, IsNotThere, HasForm, ruleFor}

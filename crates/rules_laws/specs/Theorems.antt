@@ -13,7 +13,7 @@ use Rattle.record.specs.Spelling.{contentOf}
 use Rattle.record.specs.Layout.{width, recordOf, cut}
 use Rattle.record_laws.specs.Spelled.{one-spelling, spellable-range}
 use Rattle.kinds.specs.declared.Kind.{Kind}
-use Rattle.kinds.specs.Sorts.{Bound}
+use Rattle.table.specs.Sorts.{Bound}
 use Rattle.items.specs.Items.{itemOf, rowOf}
 use Rattle.items.specs.Lists.{listOf}
 use Rattle.answers.specs.declared.Answer.{Answer}

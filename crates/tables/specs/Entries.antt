@@ -10,7 +10,7 @@ use lib.Seq.{set-at, append-snoc}
 use Rattle.laws.specs.Sizes.{size}
 use Rattle.laws.specs.Tab.{tab, length-tab, at-tab, Filled, fill-more}
 use Rattle.kinds.specs.declared.Kind.the-variants as kind
-use Rattle.kinds.specs.Table.{counters}
+use Rattle.kinds.specs.Kinds.{counters}
 use Rattle.counters.specs.declared.Counters.{Counters}
 use Rattle.counters.specs.Vectors.{valueAt, vec, vec-same, at-is}
 use Rattle.items.specs.declared.Place.{Place}

@@ -7,7 +7,7 @@ use lib.ListN.{getD}
 use Rattle.laws.specs.Arithmetic.{once-more}
 use Rattle.laws.specs.Sizes.{size, within-size}
 use Rattle.kinds.specs.declared.Kind.the-variants as kind
-use Rattle.kinds.specs.Table.{counters}
+use Rattle.kinds.specs.Kinds.{counters}
 use Rattle.counters.specs.declared.Counters.{Counters}
 use Rattle.counters.specs.Vectors.{valueAt, vec}
 use Rattle.items.specs.declared.Ref.{Ref}

@@ -6,7 +6,7 @@ use native.Mathlib.Omega.{arith}
 use lib.IntN.{ℤ, pos, _+ℤ_, _-ℤ_, _*ℤ_, +ℤ-idl, +ℤ-idr, +ℤ-assoc, +ℤ-comm}
 use borrow.Author.Tests.{le-leb, lt-leb}
 use Rattle.laws.specs.Arithmetic.{left-comm}
-use Rattle.kinds.specs.Table.{counters}
+use Rattle.kinds.specs.Kinds.{counters}
 use Rattle.counters.specs.Sum.{Valuation}
 use Rattle.items.specs.Lists.{Items}
 use Rattle.rules.specs.Rules.{markAt}

@@ -2,7 +2,7 @@
 use Prim.Native.Nat.{_^_, _<_}
 use native.Mathlib.Omega.{arith}
 use borrow.Author.Needs.{needs}
-use Rattle.kinds.specs.Table.{natural}
+use Rattle.kinds.specs.Contents.{natural}
 use Rattle.checks.proofs.Natural.{bit-from, no-bit-from}
 use Rattle.checks.proofs.has_bit_from.Statement.{statement}
 use Rattle.checks.proofs.has_bit_from.Tie as tie

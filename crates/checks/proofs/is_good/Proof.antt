@@ -1,7 +1,7 @@
 -- `checks::is_good` meets its contract. Assumes nothing.
 use mathlib.Core.Path.{_≡_, sym}
 use borrow.Author.Needs.{needs}
-use Rattle.kinds.specs.Sorts.{rangeOf}
+use Rattle.table.specs.Sorts.{rangeOf}
 use Rattle.checks.specs.Faults.{beyond}
 use Rattle.checks.proofs.is_good.Statement.{statement}
 use Rattle.checks.proofs.is_good.Tie as tie

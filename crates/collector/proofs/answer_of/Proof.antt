@@ -1,7 +1,7 @@
 -- A record whose fields are right gets the answer that the order of the tests gives. Assumes nothing.
 use mathlib.Core.Path.{_≡_, sym}
 use mathlib.Core.Bool.{true}
-use Rattle.kinds.specs.Table.{shapeOf}
+use Rattle.table.specs.Table.{shapeOf}
 use Rattle.checks.specs.Faults.{faultless}
 use Rattle.checks.proofs.Faultless.{faultless-taken, faultless-there}
 use Rattle.collector.specs.Taking.{recordAnswer}

@@ -1,7 +1,7 @@
 -- The answer to a record of a kind, test by test. Assumes nothing.
 use mathlib.Core.Path.{_≡_}
 use mathlib.Core.Bool.{true, false}
-use Rattle.kinds.specs.Table.{shapeOf}
+use Rattle.table.specs.Table.{shapeOf}
 use Rattle.checks.specs.Input.{fieldsAnswer}
 use Rattle.answers.specs.Answers.{isTaken}
 use Rattle.collector.specs.Taking.{recordAnswer}

@@ -4,7 +4,7 @@ use native.Mathlib.Omega.{arith}
 use borrow.Author.Tests.{lt-ltb, le-ltb, le-leb, lt-leb}
 use Rattle.kinds.specs.Kinds.{rankOf, countOf}
 use Rattle.kinds.specs.Last.{lastRank}
-use Rattle.kinds.specs.Table.{shapeOf}
+use Rattle.table.specs.Table.{shapeOf}
 use Rattle.items.specs.Lists.{roomOf}
 use Rattle.collector.specs.Taking.{thereAnswer, roomAnswer, orderAnswer}
 use borrow.Author.Needs.{needs}

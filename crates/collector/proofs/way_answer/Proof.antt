@@ -3,7 +3,7 @@ use mathlib.Core.Path.{_≡_}
 use mathlib.Core.Bool.{true, false}
 use borrow.Author.Tests.{eq-eqb, ne-eqb}
 use Rattle.record.specs.Layout.{at}
-use Rattle.kinds.specs.Table.{isNumber, isBlank}
+use Rattle.kinds.specs.Contents.{isNumber, isBlank}
 use Rattle.collector.specs.Taking.{wayAnswer}
 use borrow.Author.Needs.{needs}
 use Rattle.collector.proofs.way_answer.Statement.{statement}

@@ -11,7 +11,7 @@ use mir.Syntax.{w16, w64}
 use mir.Val.{SFits, toZ, ofZ}
 use mir.Facts.{toZ-ofZ, sfits-widen}
 use Rattle.laws.specs.Sizes.{size, times-fits, more-fits, more-read}
-use Rattle.kinds.specs.Table.{counters}
+use Rattle.kinds.specs.Kinds.{counters}
 use Rattle.counters.specs.Vectors.{valueAt, sum-more}
 use Rattle.counters.specs.Bounds.{sum-within}
 use Rattle.counters.proofs.dot.Statement.{statement}

@@ -10,7 +10,7 @@ use mir.Val.{toZ, ofZ}
 use mir.Facts.{toZ-ofZ}
 use Rattle.laws.specs.Sizes.{size, times-fits, more-fits, more-read}
 use Rattle.laws.specs.Tab.{Filled, fill-none, fill-more, fill-all}
-use Rattle.kinds.specs.Table.{counters}
+use Rattle.kinds.specs.Kinds.{counters}
 use Rattle.counters.specs.Vectors.{valueAt, vec}
 use Rattle.counters.proofs.more.Statement.{statement}
 use Rattle.counters.proofs.more.Tie as tie

@@ -10,7 +10,7 @@ use mir.Syntax.{w16}
 use mir.Val.{SFits}
 use mir.Facts.{toZ-ofZ, sfits-widen}
 use Rattle.laws.specs.Tab.{Filled, fill-none, fill-more, fill-all, tab-again}
-use Rattle.kinds.specs.Table.{counters}
+use Rattle.kinds.specs.Kinds.{counters}
 use Rattle.counters.proofs.widened.Statement.{statement}
 use Rattle.counters.proofs.widened.Tie as tie
 

@@ -12,7 +12,7 @@ use Rattle.laws.specs.Tab.{Filled, fill-none, fill-more, fill-all}
 use Rattle.record.specs.declared.Field.{Field}
 use Rattle.record.specs.Layout.{at}
 use Rattle.record.proofs.At.{at-is}
-use Rattle.kinds.specs.Table.{counters}
+use Rattle.kinds.specs.Kinds.{counters}
 use Rattle.items.specs.Items.{shortOf, integerOf, perCounter}
 use Rattle.items.proofs.per_counter.Statement.{statement}
 use Rattle.items.proofs.per_counter.Tie as tie

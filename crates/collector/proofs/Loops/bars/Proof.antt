@@ -3,7 +3,7 @@ use mathlib.Core.Path.{_≡_}
 use mathlib.Core.Bool.{true, false}
 use borrow.Author.Tests.{lt-ltb, le-ltb}
 use Rattle.record.specs.Layout.{at}
-use Rattle.kinds.specs.Table.{isNumber, natural}
+use Rattle.kinds.specs.Contents.{isNumber, natural}
 use borrow.Author.Needs.{needs}
 use Rattle.collector.proofs.Loops.bars.Statement.{statement}
 use Rattle.collector.proofs.Loops.bars.Tie as tie

@@ -1,8 +1,8 @@
 -- What the number in a field is, and which numbers it may be.
 use lib.IntN.{ℤ, pos, negℤ}
-use Rattle.kinds.specs.declared.Range.{Range}
-use Rattle.kinds.specs.declared.Sort.{Sort}
-use Rattle.kinds.specs.declared.Sort.the-variants.{Within, Marks, Reference}
+use Rattle.table.specs.declared.Range.{Range}
+use Rattle.table.specs.declared.Sort.{Sort}
+use Rattle.table.specs.declared.Sort.the-variants.{Within, Marks, Reference}
 
 -- the numbers from low to high
 abbrev pub fromTo : ℤ → ℤ → Range

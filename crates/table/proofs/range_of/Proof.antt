@@ -1,7 +1,7 @@
 -- The range of each sort. Assumes nothing.
 use borrow.Author.Needs.{needs}
-use Rattle.kinds.proofs.range_of.Statement.{statement}
-use Rattle.kinds.proofs.range_of.Tie as tie
+use Rattle.table.proofs.range_of.Statement.{statement}
+use Rattle.table.proofs.range_of.Tie as tie
 
 enum-known-sort : tie.Need-enum-known-sort
 enum-known-sort c = search needs

@@ -2,11 +2,11 @@
 use mathlib.Core.Path.{_∙_}
 use native.Mathlib.Omega.{arith}
 use Rattle.laws.specs.Lists.{in-first}
-use Rattle.kinds.specs.declared.Rule.the-variants.{Blank}
-use Rattle.kinds.specs.Table.{sentenceRow, inFilled}
+use Rattle.table.specs.declared.Rule.the-variants.{Blank}
+use Rattle.table.specs.Table.{sentenceRow, inFilled}
 use borrow.Author.Needs.{needs}
-use Rattle.kinds.proofs.until_rule.Statement.{statement}
-use Rattle.kinds.proofs.until_rule.Tie as tie
+use Rattle.table.proofs.until_rule.Statement.{statement}
+use Rattle.table.proofs.until_rule.Tie as tie
 
 sub-any : tie.Need-sub-any
 sub-any c = search needs

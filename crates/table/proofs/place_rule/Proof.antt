@@ -1,11 +1,11 @@
 -- The row of a place. Assumes nothing.
 use native.Mathlib.Omega.{arith}
 use Rattle.laws.specs.Lists.{past-end}
-use Rattle.kinds.specs.declared.Rule.the-variants.{Blank}
-use Rattle.kinds.specs.Table.{placeRow, inFilled}
+use Rattle.table.specs.declared.Rule.the-variants.{Blank}
+use Rattle.table.specs.Table.{placeRow, inFilled}
 use borrow.Author.Needs.{needs}
-use Rattle.kinds.proofs.place_rule.Statement.{statement}
-use Rattle.kinds.proofs.place_rule.Tie as tie
+use Rattle.table.proofs.place_rule.Statement.{statement}
+use Rattle.table.proofs.place_rule.Tie as tie
 
 sub-any : tie.Need-sub-any
 sub-any c = search needs

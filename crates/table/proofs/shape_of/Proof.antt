@@ -5,9 +5,10 @@ use Prim.Native.Nat.{ℕ, suc, _-_}
 use native.Mathlib.Omega.{arith}
 use Rattle.laws.specs.Tab.{Filled, fill-none, fill-more, fill-all}
 use Rattle.record.specs.Layout.{fields, at}
-use Rattle.kinds.specs.Table.{flagOf, shapeOf}
-use Rattle.kinds.proofs.shape_of.Statement.{statement}
-use Rattle.kinds.proofs.shape_of.Tie as tie
+use Rattle.kinds.specs.Contents.{flagOf}
+use Rattle.table.specs.Table.{shapeOf}
+use Rattle.table.proofs.shape_of.Statement.{statement}
+use Rattle.table.proofs.shape_of.Tie as tie
 
 abbrev Inv-loop : tie.InvT-loop
 Inv-loop kind row first filled₀ k₀ filled k = Filled (λ (i : ℕ). flagOf (at row (suc i))) fields filled k

@@ -3,10 +3,11 @@ use mathlib.Core.Path.{refl}
 use borrow.Author.Needs.{needs}
 use native.Mathlib.Omega.{arith}
 use Rattle.laws.specs.Lists.{past-end, in-run}
-use Rattle.kinds.specs.declared.Rule.the-variants.{Blank}
-use Rattle.kinds.specs.Table.{guardRow, counters}
-use Rattle.kinds.proofs.guard_rule.Statement.{statement}
-use Rattle.kinds.proofs.guard_rule.Tie as tie
+use Rattle.kinds.specs.Kinds.{counters}
+use Rattle.table.specs.declared.Rule.the-variants.{Blank}
+use Rattle.table.specs.Table.{guardRow}
+use Rattle.table.proofs.guard_rule.Statement.{statement}
+use Rattle.table.proofs.guard_rule.Tie as tie
 
 returns : tie.Need-returns
 returns c = in-run Blank (guardRow counters) (c .before .args .k) 0 counters refl (omega arith) (omega arith)

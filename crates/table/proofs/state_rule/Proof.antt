@@ -1,10 +1,10 @@
 -- The row of a state has one field. Assumes nothing.
 use native.Mathlib.Omega.{arith}
 use Rattle.laws.specs.Lists.{past-end}
-use Rattle.kinds.specs.declared.Rule.the-variants.{Blank}
-use Rattle.kinds.specs.Table.{stateRow}
-use Rattle.kinds.proofs.state_rule.Statement.{statement}
-use Rattle.kinds.proofs.state_rule.Tie as tie
+use Rattle.table.specs.declared.Rule.the-variants.{Blank}
+use Rattle.table.specs.Table.{stateRow}
+use Rattle.table.proofs.state_rule.Statement.{statement}
+use Rattle.table.proofs.state_rule.Tie as tie
 
 returns : tie.Need-returns
 returns c = simp (c .if1 .taken)

@@ -1,6 +1,6 @@
 -- The rule follows the test. Assumes nothing.
-use Rattle.kinds.proofs.needed_if.Statement.{statement}
-use Rattle.kinds.proofs.needed_if.Tie as tie
+use Rattle.table.proofs.needed_if.Statement.{statement}
+use Rattle.table.proofs.needed_if.Tie as tie
 
 returns : tie.Need-returns
 returns c = simp (c .if1 .taken)

@@ -1,8 +1,8 @@
 -- The rule in the row of the kind. Assumes nothing.
-use Rattle.kinds.specs.Table.{ruleAt}
+use Rattle.table.specs.Table.{ruleAt}
 use borrow.Author.Needs.{needs}
-use Rattle.kinds.proofs.rule_at.Statement.{statement}
-use Rattle.kinds.proofs.rule_at.Tie as tie
+use Rattle.table.proofs.rule_at.Statement.{statement}
+use Rattle.table.proofs.rule_at.Tie as tie
 
 enum-told : tie.Need-enum-told
 enum-told c = search needs

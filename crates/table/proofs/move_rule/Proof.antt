@@ -2,11 +2,12 @@
 use mathlib.Core.Path.{refl}
 use native.Mathlib.Omega.{arith}
 use Rattle.laws.specs.Lists.{past-end, in-run}
-use Rattle.kinds.specs.declared.Rule.the-variants.{Blank}
-use Rattle.kinds.specs.Table.{moveRow, counters, inFilled}
+use Rattle.kinds.specs.Kinds.{counters}
+use Rattle.table.specs.declared.Rule.the-variants.{Blank}
+use Rattle.table.specs.Table.{moveRow, inFilled}
 use borrow.Author.Needs.{needs}
-use Rattle.kinds.proofs.move_rule.Statement.{statement}
-use Rattle.kinds.proofs.move_rule.Tie as tie
+use Rattle.table.proofs.move_rule.Statement.{statement}
+use Rattle.table.proofs.move_rule.Tie as tie
 
 returns : tie.Need-returns
 returns c =

@@ -4,28 +4,23 @@ use mathlib.Core.List.{List, [], _∷_, _++_}
 use mathlib.Core.Bool.{Bool, true, false, _||_}
 use Prim.Native.Nat.{ℕ, _+_}
 use lib.Dec.{eqb}
-use lib.IntN.{pos, negsuc}
 use lib.ListN.{replicate, getD}
 use Rattle.laws.specs.Lists.{nth}
 use Rattle.laws.specs.Tab.{tab}
-use Rattle.record.specs.declared.Content.{Content}
-use Rattle.record.specs.declared.Content.the-variants.{Blank, Number, Bad}
 use Rattle.record.specs.declared.Record.{Record}
 use Rattle.record.specs.Layout.{fields, at}
 use Rattle.kinds.specs.declared.Kind.{Kind}
 use Rattle.kinds.specs.declared.Kind.the-variants.{State, Guard, Move, Sentence, Place}
-use Rattle.kinds.specs.declared.Sort.{Sort}
-use Rattle.kinds.specs.declared.Sort.the-variants.{Marks, Reference}
-use Rattle.kinds.specs.Sorts.{Propositions, Coefficient, Bound, Update, Form, Proposition, LoopLength, Rounds}
-use Rattle.kinds.specs.declared.Rule.{Rule}
-use Rattle.kinds.specs.declared.Rule.the-variants as rule
-use Rattle.kinds.specs.declared.Rule.the-variants.{Needed, Optional}
-use Rattle.kinds.specs.declared.Filled.{Filled}
-use Rattle.kinds.specs.declared.Shape.{Shape}
-
--- the number of counters
-abbrev pub counters : ℕ
-counters = 4
+use Rattle.kinds.specs.Kinds.{counters}
+use Rattle.kinds.specs.Contents.{flagOf, natural}
+use Rattle.table.specs.declared.Sort.{Sort}
+use Rattle.table.specs.declared.Sort.the-variants.{Marks, Reference}
+use Rattle.table.specs.Sorts.{Propositions, Coefficient, Bound, Update, Form, Proposition, LoopLength, Rounds}
+use Rattle.table.specs.declared.Rule.{Rule}
+use Rattle.table.specs.declared.Rule.the-variants as rule
+use Rattle.table.specs.declared.Rule.the-variants.{Needed, Optional}
+use Rattle.table.specs.declared.Filled.{Filled}
+use Rattle.table.specs.declared.Shape.{Shape}
 
 -- a field that may be blank, but is needed where the test holds
 abbrev pub neededIf : Bool → Sort → Rule
@@ -96,29 +91,6 @@ rulesOf n Guard f x = guardRow n
 rulesOf n Move f x = moveRow n x
 rulesOf n Sentence f x = sentenceRow f x
 rulesOf n Place f x = placeRow x
-
--- whether a field is blank
-abbrev pub isBlank : Content → Bool
-isBlank Blank = true
-isBlank (Number z) = false
-isBlank Bad = false
-
--- 1 for a field that is filled, 0 for any other
-abbrev pub flagOf : Content → ℕ
-flagOf Blank = 0
-flagOf (Number z) = 1
-flagOf Bad = 0
-
--- whether a field is filled
-abbrev pub isNumber : Content → Bool
-isNumber c = eqb (flagOf c) 1
-
--- the number of a field that is 0 or more, and 0 of any other
-abbrev pub natural : Content → ℕ
-natural Blank = 0
-natural (Number (pos n)) = n
-natural (Number (negsuc n)) = 0
-natural Bad = 0
 
 -- what decides the rules of a record: its kind, its form and which fields are filled
 unfoldable pub shapeOf : Kind → Record → Shape

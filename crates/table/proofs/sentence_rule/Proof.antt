@@ -4,12 +4,12 @@ use Prim.Native.Nat.{ℕ}
 use native.Mathlib.Omega.{arith}
 use Rattle.laws.specs.Lists.{nth}
 use Rattle.laws.specs.Cases.{no-case}
-use Rattle.kinds.specs.declared.Rule.{Rule}
-use Rattle.kinds.specs.declared.Rule.the-variants.{Blank}
-use Rattle.kinds.specs.Table.{sentenceRow, inFilled}
+use Rattle.table.specs.declared.Rule.{Rule}
+use Rattle.table.specs.declared.Rule.the-variants.{Blank}
+use Rattle.table.specs.Table.{sentenceRow, inFilled}
 use borrow.Author.Needs.{needs}
-use Rattle.kinds.proofs.sentence_rule.Statement.{statement}
-use Rattle.kinds.proofs.sentence_rule.Tie as tie
+use Rattle.table.proofs.sentence_rule.Statement.{statement}
+use Rattle.table.proofs.sentence_rule.Tie as tie
 
 -- the row of the form that the number is
 at-form : (c : tie.Start) {f : ℕ} {r : Rule} → c .args .form ≡ f

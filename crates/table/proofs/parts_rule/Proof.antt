@@ -5,10 +5,10 @@ use native.Mathlib.Omega.{arith}
 use lib.ListN.{replicate, length-replicate}
 use lib.Seq.{take-all}
 use Rattle.laws.specs.Lists.{past-end, in-run}
-use Rattle.kinds.specs.declared.Rule.the-variants.{Blank, Needed}
-use Rattle.kinds.specs.Sorts.{Form}
-use Rattle.kinds.proofs.parts_rule.Statement.{statement}
-use Rattle.kinds.proofs.parts_rule.Tie as tie
+use Rattle.table.specs.declared.Rule.the-variants.{Blank, Needed}
+use Rattle.table.specs.Sorts.{Form}
+use Rattle.table.proofs.parts_rule.Statement.{statement}
+use Rattle.table.proofs.parts_rule.Tie as tie
 
 returns : tie.Need-returns
 returns c = simp (c .if1 .taken)
