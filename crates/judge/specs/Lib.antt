@@ -1,6 +1,1 @@
-pub mod Told
-pub mod Laws
-pub mod Ways
-pub mod Tests
-pub mod TestSums
 pub mod Stages

@@ -1,10 +1,11 @@
 -- The answer of a judgement, stage by stage: each by what its search found, or else by the next. Assumes nothing.
 use mathlib.Core.Path.{_≡_, refl, _∙_, sym, ap}
 use mathlib.Core.Bool.{Bool, true, false, cond, _&&_}
-use Prim.Native.Nat.{ℕ, _-_}
+use Prim.Native.Nat.{ℕ, _-_, _<_}
 use lib.Dec.{eqb, ltb}
 use lib.ListN.{getD}
 use borrow.Author.Tests.{eq-eqb, ne-eqb}
+use Rattle.laws.specs.Tests.{tells-lt, tells-and}
 use Rattle.kinds.specs.declared.Kind.the-variants as kind
 use Rattle.kinds.specs.Kinds.{countsTotal}
 use Rattle.items.specs.declared.Place.{Place}
@@ -26,7 +27,7 @@ use Rattle.tables.specs.Reads.{at-places}
 use Rattle.guards.specs.declared.Search.{Search}
 use Rattle.guards.specs.declared.Search.the-variants.{Nowhere, At}
 use Rattle.marks.specs.Wrong.{toldMark}
-use Rattle.judge.specs.Told.{toldWay, toldTest}
+use Rattle.ways.specs.Told.{toldWay, toldTest}
 
 -- 32, 33 and 34, where the search for them found something, else the answer that follows
 abbrev pub orUnconnected : Search → Judgement → Judgement
@@ -108,6 +109,11 @@ module _ {c : Case} (s : Sound c) where
 
     pub started : b ≡ true → first .state ≡ 0 → verdict x (startOf x) ≡ waysAnswer x
     started t h = judged ∙ rw (sym e ∙ t, eq-eqb (first .state) 0 h)
+
+    pub some-sentence : b ≡ true → 0 < c .count .sentences
+    some-sentence t =
+        let n = c .count .sentences in
+        tells-and (ltb 0 n) (isClosed (c .derived .loops) (c .count .places)) (tells-lt 0 n) (λ d. d, λ d. d) .0 (sym e ∙ t) .0
 
   -- where r is the root, and b its mark at place 0
   pub by-root : {r : ℕ} {b : Bool} → r ≡ c .count .sentences - 1 → b ≡ bit (first .marks) r → cond b Accepted (RootUnmarked r) ≡ rootAnswer x

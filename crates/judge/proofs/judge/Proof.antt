@@ -1,5 +1,5 @@
 -- The stages in their order: what each search finds, or else the next. Assumes nothing.
-use mathlib.Core.Path.{_≡_, _∙_, sym, ap}
+use mathlib.Core.Path.{_≡_, refl, _∙_, sym, ap}
 use native.Mathlib.Omega.{arith}
 use borrow.Author.Needs.{needs}
 use borrow.Author.Tests.{not-true, not-false}
@@ -21,6 +21,7 @@ use Rattle.judge.specs.Stages.{
   unfinished,
   wrong-start,
   started,
+  some-sentence,
   by-root,
 }
 use Rattle.judge.proofs.judge.Statement.{statement}
@@ -135,11 +136,14 @@ returns-5 c =
 enum-told-3 : tie.Need-enum-told-3
 enum-told-3 c = search needs
 
-one-less-requires : tie.Need-one-less-requires
-one-less-requires c κs = search needs
+sub-root : tie.Need-sub-root
+sub-root c =
+    let w = u (g (c .before .before .before)) in
+    let d = w .before .before .before .before in
+    some-sentence (t w .pre) (d .before .finished .ensures) (not-false _ (d .if1 .left))
 
 cast-root : tie.Need-cast-root
-cast-root c = omega (arith, c .one-less .ensures, t (u (g (c .before .before .before))) .pre .room kind.Sentence)
+cast-root c = omega (arith, t (u (g (c .before .before .before))) .pre .room kind.Sentence)
 
 bit-requires : tie.Need-bit-requires
 bit-requires c κs = search needs
@@ -147,12 +151,12 @@ bit-requires c κs = search needs
 returns-6 : tie.Need-returns-6
 returns-6 c =
     let d = c .before in
-    (rw (not-true (d .bit .result) (c .if3 .taken)) at (by-root (t (u (g (m d))) .pre) (d .before .one-less .ensures) (d .bit .ensures))) ∙ sym (at-root d)
+    (rw (not-true (d .bit .result) (c .if3 .taken)) at (by-root (t (u (g (m d))) .pre) refl (d .bit .ensures))) ∙ sym (at-root d)
 
 returns-7 : tie.Need-returns-7
 returns-7 c =
     let d = c .before in
-    (rw (not-false (d .bit .result) (c .if3 .left)) at (by-root (t (u (g (m d))) .pre) (d .before .one-less .ensures) (d .bit .ensures))) ∙ sym (at-root d)
+    (rw (not-false (d .bit .result) (c .if3 .left)) at (by-root (t (u (g (m d))) .pre) refl (d .bit .ensures))) ∙ sym (at-root d)
 
 pub judge-spec : {M : Type 1} → statement M
 judge-spec =
@@ -176,7 +180,7 @@ judge-spec =
     enum-known-mark
     returns-5
     enum-told-3
-    one-less-requires
+    sub-root
     cast-root
     bit-requires
     returns-6

@@ -27,8 +27,8 @@ use Rattle.meaning_laws.specs.Given.{facts}
 use Rattle.verdict.specs.Verdict.{Found, firstNot, connects, refNumber}
 use Rattle.tables.specs.Reads.{at-places, at-moves}
 use Rattle.guards.specs.Found.{found, found-start}
-use Rattle.judge.specs.Told.{isNamed}
-use Rattle.judge.specs.Laws.{ifThere, each, fails, gather-two}
+use Rattle.ways.specs.Told.{isNamed}
+use Rattle.ways.specs.Laws.{ifThere, each, fails, gather-two}
 
 -- way k
 abbrev pub wayNo : ℕ → Way

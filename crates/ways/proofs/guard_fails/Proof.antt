@@ -19,13 +19,13 @@ use Rattle.tables.specs.Tables.{firstsOf}
 use Rattle.guards.specs.declared.Search.the-variants.{At}
 use Rattle.tables.specs.Known.{first-within, base-is, drift-is}
 use Rattle.guards.specs.Found.{found-end}
-use Rattle.judge.specs.Told.{toldTest, isNamed}
-use Rattle.judge.specs.Laws.{fails, found-here, found-later, each}
-use Rattle.judge.specs.Ways.{wayNo, way-move, move-below}
-use Rattle.judge.specs.Tests.{guardNo, isTest, testNo, testsFrom, tests-start, guard-read, guard-below, guard-at, rounds-at}
-use Rattle.judge.specs.TestSums.{test-fits, test-is}
-use Rattle.judge.proofs.guard_fails.Statement.{statement}
-use Rattle.judge.proofs.guard_fails.Tie as tie
+use Rattle.ways.specs.Told.{toldTest, isNamed}
+use Rattle.ways.specs.Laws.{fails, found-here, found-later, each}
+use Rattle.ways.specs.Ways.{wayNo, way-move, move-below}
+use Rattle.ways.specs.Tests.{guardNo, isTest, testNo, testsFrom, tests-start, guard-read, guard-below, guard-at, rounds-at}
+use Rattle.ways.specs.TestSums.{test-fits, test-is}
+use Rattle.ways.proofs.guard_fails.Statement.{statement}
+use Rattle.ways.proofs.guard_fails.Tie as tie
 
 abbrev Inv-loop : tie.InvT-loop
 Inv-loop c n firsts drifts bases k₀ k = firstNot (passes (itemsOf c) (startOf (itemsOf c))) (testsOf (itemsOf c)) ≡ testsFrom (itemsOf c) k

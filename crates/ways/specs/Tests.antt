@@ -30,9 +30,9 @@ use Rattle.tables.specs.Tables.{firstsOf}
 use Rattle.tables.specs.Reads.{at-places, at-moves, at-guards}
 use Rattle.guards.specs.Found.{found, found-start}
 use Rattle.tables.specs.Known.{first-is, rounds-are}
-use Rattle.judge.specs.Told.{isNamed, given}
-use Rattle.judge.specs.Laws.{ifThere, each, gather-two, gather-gather}
-use Rattle.judge.specs.Ways.{wayNo, isWay, ways-listed, move-held, move-below}
+use Rattle.ways.specs.Told.{isNamed, given}
+use Rattle.ways.specs.Laws.{ifThere, each, gather-two, gather-gather}
+use Rattle.ways.specs.Ways.{wayNo, isWay, ways-listed, move-held, move-below}
 
 -- one of the two guards of a move
 abbrev pub guardBy : Bool → Move → Ref

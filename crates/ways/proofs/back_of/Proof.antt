@@ -1,7 +1,7 @@
 -- The back move of each mark. Assumes nothing.
 use borrow.Author.Needs.{needs}
-use Rattle.judge.proofs.back_of.Statement.{statement}
-use Rattle.judge.proofs.back_of.Tie as tie
+use Rattle.ways.proofs.back_of.Statement.{statement}
+use Rattle.ways.proofs.back_of.Tie as tie
 
 enum-told : tie.Need-enum-told
 enum-told c = search needs

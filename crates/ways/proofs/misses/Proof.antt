@@ -1,7 +1,7 @@
 -- A guard that is there, and isn't met. Assumes nothing.
 use borrow.Author.Needs.{needs}
-use Rattle.judge.proofs.misses.Statement.{statement}
-use Rattle.judge.proofs.misses.Tie as tie
+use Rattle.ways.proofs.misses.Statement.{statement}
+use Rattle.ways.proofs.misses.Tie as tie
 
 enum-told : tie.Need-enum-told
 enum-told c = search needs

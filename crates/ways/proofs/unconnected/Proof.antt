@@ -13,11 +13,11 @@ use Rattle.meaning.specs.Judged.{waysOf, placeBefore}
 use Rattle.verdict.specs.Verdict.{firstNot, connects, refNumber}
 use Rattle.guards.specs.declared.Search.the-variants.{At}
 use Rattle.guards.specs.Found.{found-end}
-use Rattle.judge.specs.Told.{toldWay}
-use Rattle.judge.specs.Laws.{fails, found-here, found-later, each}
-use Rattle.judge.specs.Ways.{wayNo, isWay, waysFrom, ways-start, way-move, way-before, way-room, before-below, move-below, way-fails}
-use Rattle.judge.proofs.unconnected.Statement.{statement}
-use Rattle.judge.proofs.unconnected.Tie as tie
+use Rattle.ways.specs.Told.{toldWay}
+use Rattle.ways.specs.Laws.{fails, found-here, found-later, each}
+use Rattle.ways.specs.Ways.{wayNo, isWay, waysFrom, ways-start, way-move, way-before, way-room, before-below, move-below, way-fails}
+use Rattle.ways.proofs.unconnected.Statement.{statement}
+use Rattle.ways.proofs.unconnected.Tie as tie
 
 abbrev Inv-loop : tie.InvT-loop
 Inv-loop c n k₀ k = firstNot (connects (itemsOf c)) (waysOf (itemsOf c)) ≡ waysFrom (itemsOf c) k

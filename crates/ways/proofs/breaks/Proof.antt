@@ -1,8 +1,8 @@
 -- The test of a way by its two halves. Assumes nothing.
 use borrow.Author.Needs.{needs}
 use borrow.Author.Tests.{eq-eqb, ne-eqb}
-use Rattle.judge.proofs.breaks.Statement.{statement}
-use Rattle.judge.proofs.breaks.Tie as tie
+use Rattle.ways.proofs.breaks.Statement.{statement}
+use Rattle.ways.proofs.breaks.Tie as tie
 
 enum-told : tie.Need-enum-told
 enum-told c = search needs

@@ -1,7 +1,7 @@
 -- The place before, by the way. Assumes nothing.
 use borrow.Author.Needs.{needs}
-use Rattle.judge.proofs.place_before.Statement.{statement}
-use Rattle.judge.proofs.place_before.Tie as tie
+use Rattle.ways.proofs.place_before.Statement.{statement}
+use Rattle.ways.proofs.place_before.Tie as tie
 
 stretch-requires : tie.Need-stretch-requires
 stretch-requires c κs = search needs
