@@ -1,3 +1,3 @@
 pub mod GuardSums
-pub mod Bits
+pub mod SentenceSums
 pub mod Found

@@ -1,14 +1,24 @@
-// A guard over rounds, the bits of a set, and what a search found: for the guards on ways and for the marks alike.
+// A guard over rounds, for those on ways and those of sentences alike, the first place at which a sentence of a guard is marked wrongly, and what a search
+// found.
 ghost use mathlib.Core.Path.{_≡_};
 ghost use mathlib.Core.Bool.{cond};
 ghost use Prim.Native.Nat.{_+_, _<_, _^_};
 ghost use lib.IntN.{pos, _+ℤ_};
 ghost use Rattle.laws.specs.Sizes.{size};
-ghost use Rattle.meaning.specs.Truth.{bit};
+ghost use Rattle.collector.specs.Cases.{itemsOf};
+ghost use Rattle.collector.specs.Sound.{Sound};
+ghost use Rattle.meaning.specs.Run.{guardAt};
+ghost use Rattle.meaning.specs.Judged.{startOf};
+ghost use Rattle.verdict.specs.Verdict.{guardThrough};
+ghost use Rattle.rounds.specs.Wrong.{wrongIn};
+ghost use Rattle.tables.specs.Tables.{tablesOf};
 ghost use Rattle.guards.specs.GuardSums.{SumsFit, throughBy};
+use collector::Case;
 use counters::Counters;
 use items::Guard;
 use items::PlaceNo;
+use kinds::PerCounter;
+use tables::Tables;
 use verdict::Rounds;
 use verdict::Throughout;
 
@@ -16,16 +26,6 @@ use verdict::Throughout;
 pub enum Search {
     Nowhere,
     At(PlaceNo, u8),
-}
-
-// Bit i of a set.
-pub fn bit(n: u32, i: u8) -> bool
-    ensures { λ r. ⌜ r ≡ bit n i ⌝ }
-{
-    if i < 32 {
-        return (n >> (i as u32)) % 2 == 1;
-    }
-    false
 }
 
 // The sum of a guard in the first of the rounds: a at first, and one round later d more.
@@ -55,4 +55,49 @@ pub fn guard_through(
     let d = counters::dot(g.coefficients, drift);
     let first = first_sum(a, d, later);
     rounds::through(first, d, g.bound as i64, rounds)
+}
+
+// A guard, and one that is always true where there is none.
+fn guard_at(c: Case, g: u8) -> Guard
+    requires { ⌜ Sound c ⌝ }
+    ensures { λ r. ⌜ r ≡ guardAt (itemsOf c .guards) g ⌝ }
+{
+    let i = g as usize;
+    if i < Case::GUARDS {
+        return c.guards[i];
+    }
+    Guard {
+        coefficients: PerCounter {
+            at: [0i16; PerCounter::COUNT],
+        },
+        bound: 0,
+    }
+}
+
+// The first place at which sentence i, guard g, is marked wrongly.
+pub fn guard_wrong(c: Case, t: Tables, i: u8, g: u8) -> usize
+    requires { ⌜ (Sound c) × (t ≡ tablesOf (itemsOf c)) ⌝ }
+    ensures { λ r. ⌜ r ≡ wrongIn (itemsOf c) i (guardThrough (itemsOf c) (startOf (itemsOf c)) (guardAt (itemsOf c .guards) g)) ⌝ }
+{
+    let guard = guard_at(c, g);
+    let firsts = t.firsts;
+    let drifts = t.drifts;
+    let bases = t.bases;
+    let n = c.count.places;
+    let mut p: usize = 0;
+    while p < n {
+        let q = firsts.at[p] as usize;
+        let first = c.places[q];
+        let mark = first.mark;
+        let base = bases.at[p];
+        let drift = drifts.at[p];
+        let place = c.places[p];
+        let t = guard_through(guard, base, drift, false, rounds::rounds_of(mark));
+        if rounds::is_right(t, rounds::bit(place.marks, i)) {
+            p = p + 1;
+        } else {
+            return p;
+        }
+    }
+    p
 }

@@ -55,7 +55,7 @@ pub fn judge(c: Case) -> Judgement
         return Judgement::WrongMark(p, i);
     }
     let root = (count.sentences - 1) as u8;
-    if !guards::bit(first.marks, root) {
+    if !rounds::bit(first.marks, root) {
         return Judgement::RootUnmarked(root);
     }
     Judgement::Accepted

@@ -19,14 +19,14 @@ use Rattle.meaning.specs.Run.{stretch, placeAt}
 use Rattle.meaning.specs.Truth.{bit}
 use Rattle.meaning.specs.Judged.{startOf, stateAt, marked}
 use Rattle.meaning_laws.specs.Given.{by-end, facts}
-use Rattle.verdict.specs.declared.Throughout.{Throughout}
 use Rattle.verdict.specs.Rounds.{roundsOf, flag}
-use Rattle.verdict.specs.Verdict.{nextBy, nextThrough, formThrough, isAlways, isNever}
+use Rattle.verdict.specs.Verdict.{nextBy, nextThrough, formThrough}
+use Rattle.rounds.specs.Wrong.{wrongIn}
 use Rattle.tables.specs.declared.Firsts.{Firsts}
 use Rattle.tables.specs.Tables.{firstsOf}
 use Rattle.tables.specs.Known.{first-is}
 use Rattle.tables.specs.Reads.{at-states, at-sentences, at-places}
-use Rattle.marks.specs.Wrong.{isRight, wrongIn, formAt, wrongOf, sameAlways, simpleThrough}
+use Rattle.marks.specs.Wrong.{formAt, wrongOf, sameAlways, simpleThrough}
 use Rattle.marks.specs.Ranged.{Ranged, ranged}
 
 -- ---- whether the next moment's sentence holds, at place p
@@ -69,11 +69,6 @@ module _ {c : Case} (s : Sound c) (p : ℕ) where
   simple-is φ =
       ap (λ (y : Place). flag (sameAlways φ (getD (c .states) (y .state) (noItem kind.State) .propositions) (y .marks))) (at-places s p)
       ∙ ap (λ (z : State). flag (sameAlways φ (z .propositions) (placeAt (itemsOf c .places) p .marks))) (at-states s (stateAt (itemsOf c) p))
-
-  -- the mark of sentence i there, against what the sentence is by f
-  pub right-is : (i : ℕ) (f : ℕ → Throughout) {b : Bool} {t : Throughout} → b ≡ bit (placeHere .marks) i → t ≡ f p
-      → cond b (isAlways t) (isNever t) ≡ isRight (itemsOf c) i f p
-  right-is i f k r = ap₂ (λ (b : Bool) (t : Throughout). cond b (isAlways t) (isNever t)) (k ∙ ap (λ (y : Place). bit (y .marks) i) (at-places s p)) r
 
 -- ---- the form of a sentence
 

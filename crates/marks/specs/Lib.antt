@@ -1,9 +1,4 @@
 pub mod Wrong
-pub mod Search
-pub mod Bits
 pub mod Ranged
 pub mod Known
-pub mod SentenceSums
-pub mod Steps
-pub mod Untils
 pub mod Marks

@@ -11,10 +11,11 @@ use Rattle.laws.specs.All.{from}
 use Rattle.items.specs.Lists.{Items}
 use Rattle.meaning.specs.Judged.{startOf, Mark, marksOf}
 use Rattle.verdict.specs.Verdict.{Found, nowhere, at, firstNot, markRight}
+use Rattle.rounds.specs.Wrong.{firstOff}
 use Rattle.guards.specs.declared.Search.{Search}
 use Rattle.guards.specs.declared.Search.the-variants.{Nowhere, At}
 use Rattle.guards.specs.Found.{elseFound, found, found-start, found-turn, found-end}
-use Rattle.marks.specs.Wrong.{firstOff, wrongOf, toldMark}
+use Rattle.marks.specs.Wrong.{wrongOf, toldMark}
 
 -- ---- a row, which has a k for each number k
 

@@ -1,11 +1,8 @@
--- The coefficients of a sentence are in their range, so the labels of the places are light. Assumes nothing.
-use mathlib.Core.Bool.{Bool}
-use Prim.Native.Nat.{ℕ, _≤_}
+-- The coefficients of every sentence are in their range. Assumes nothing.
+use Prim.Native.Nat.{ℕ}
 use native.Mathlib.Omega.{arith}
 use lib.IntN.{ℤ}
 use lib.ListN.{getD}
-use Rattle.laws.specs.Sizes.{size, add-size, Within, within-size}
-use Rattle.laws.specs.Tests.{cond-by}
 use Rattle.kinds.specs.declared.Kind.the-variants as kind
 use Rattle.table.specs.Table.{ruleAt, shapeOf}
 use Rattle.items.specs.declared.Term.{Term}
@@ -21,15 +18,9 @@ use Rattle.collector.specs.Sound.{Sound, Fit}
 use Rattle.rules_laws.specs.Fields.{met}
 use Rattle.rules_laws.specs.Held.{counted}
 use Rattle.meaning_laws.specs.Given.{by-end, field-within}
-use Rattle.verdict.specs.Labels.{worth, weightOf, labelOf}
-use Rattle.maxplus.specs.Bounds.{Light}
+use Rattle.untils.specs.Sums.{Mild}
 
--- a term with a coefficient from -999 to 999
-abbrev pub Mild : Term → Type 0
-Mild term.None = Unit {0}
-Mild (term.Some c s) = Within 999 c
-
--- a sentence of this form has such terms only
+-- a sentence of this form has terms in their range only
 abbrev pub Ranged : Form → Type 0
 Ranged form.True = Unit {0}
 Ranged (form.Proposition v) = Unit {0}
@@ -61,19 +52,3 @@ pub ranged : {c : Case} → Sound c → (i : ℕ) → Ranged (getD (itemsOf c .s
 ranged {c} s i =
     by-end (λ (y : Sentence). Ranged (y .form)) (itemsOf c .sentences) (noItem kind.Sentence) i
     (λ h. form-ranged _ (s .fit kind.Sentence i (omega (arith, counted c s kind.Sentence)))) tt
-
--- ---- light labels
-
-worth-size : (mark : ℕ → Bool) (t : Term) → Mild t → size (worth mark t) ≤ 999
-worth-size mark term.None h = omega arith
-worth-size mark (term.Some c s) h = cond-by (λ z. size z ≤ 999) (mark s) (λ e. within-size 999 c h) (λ e. omega arith)
-
-pub mild-light : (mk : ℕ → ℕ → Bool) (a b : ℕ) (t u : Term) → Mild t → Mild u → Light (labelOf mk a b t u)
-unfolding weightOf
-mild-light mk a b t u h k =
-    record {
-      each =
-          λ p.
-          let m : ℕ → Bool = λ s. mk s p in
-          omega (arith, add-size (worth m t) (worth m u), worth-size m t h, worth-size m u k);
-    }

@@ -1,1 +1,4 @@
 pub mod Last
+pub mod Bits
+pub mod Wrong
+pub mod Search

@@ -1,8 +1,10 @@
-// The rounds of a place, and what is true throughout them: a sum that grows by the same with each round, against a bound.
+// The rounds of a place, and what is true throughout them: a sum that grows by the same with each round, against a bound; and a mark against that.
 ghost use mathlib.Core.Path.{_≡_};
+ghost use mathlib.Core.Bool.{cond};
 ghost use Prim.Native.Nat.{_+_, _-_, _*_, _<_, _^_};
 ghost use Rattle.laws.specs.Sizes.{size};
 ghost use Rattle.meaning.specs.Run.{stretch};
+ghost use Rattle.meaning.specs.Truth.{bit};
 ghost use Rattle.verdict.specs.declared.Rounds.the-variants as rounds;
 ghost use Rattle.verdict.specs.Rounds.{roundsOf, later, flag, agree, through};
 ghost use Rattle.verdict.specs.Forward.{repeats};
@@ -125,7 +127,7 @@ pub fn is_always(t: Throughout) -> bool
 }
 
 // Whether it is false throughout.
-pub fn is_never(t: Throughout) -> bool
+fn is_never(t: Throughout) -> bool
     ensures { λ r. ⌜ r ≡ isNever t ⌝ }
 {
     match t {
@@ -133,6 +135,26 @@ pub fn is_never(t: Throughout) -> bool
         Throughout::Never => true,
         Throughout::Changes => false,
     }
+}
+
+// Whether a mark is right, of a sentence that is so throughout the place.
+pub fn is_right(t: Throughout, marked: bool) -> bool
+    ensures { λ r. ⌜ r ≡ cond marked (isAlways t) (isNever t) ⌝ }
+{
+    if marked {
+        return is_always(t);
+    }
+    is_never(t)
+}
+
+// Bit i of a set.
+pub fn bit(n: u32, i: u8) -> bool
+    ensures { λ r. ⌜ r ≡ bit n i ⌝ }
+{
+    if i < 32 {
+        return (n >> (i as u32)) % 2 == 1;
+    }
+    false
 }
 
 // A sum that is a at first and grows by d with each round, against a bound: without end, by where it goes.

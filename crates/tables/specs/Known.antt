@@ -1,5 +1,6 @@
--- What the code reads of a place in the tables of judging. Assumes nothing.
-use mathlib.Core.Path.{_≡_, refl, ap}
+-- What the code reads of a place, in the tables of judging and of its marks. Assumes nothing.
+use mathlib.Core.Path.{_≡_, refl, _∙_, ap, ap₂}
+use mathlib.Core.Bool.{Bool, cond}
 use Prim.Native.Nat.{ℕ, _+_, _≤_, _<_}
 use lib.ListN.{length, getD}
 use Rattle.kinds.specs.declared.Kind.the-variants as kind
@@ -10,12 +11,17 @@ use Rattle.collector.specs.declared.Case.{Case}
 use Rattle.collector.specs.Cases.{itemsOf}
 use Rattle.collector.specs.Sound.{Sound}
 use Rattle.meaning.specs.Run.{stretch}
+use Rattle.meaning.specs.Truth.{bit}
 use Rattle.meaning.specs.Judged.{startOf}
+use Rattle.verdict.specs.declared.Throughout.{Throughout}
 use Rattle.verdict.specs.Rounds.{firstOf, loopOf, roundsOf}
 use Rattle.verdict.specs.Forward.{drift, base}
+use Rattle.verdict.specs.Verdict.{isAlways, isNever}
+use Rattle.rounds.specs.Wrong.{isRight}
 use Rattle.tables.specs.declared.Firsts.{Firsts}
 use Rattle.tables.specs.declared.Tables.{Tables}
 use Rattle.tables.specs.Tables.{vecOf, firstsOf, tablesOf}
+use Rattle.tables.specs.Reads.{at-places}
 use Rattle.tables.specs.Entries.{first-at, values-at}
 use Rattle.tables.specs.Stretches.{first-below, mark-is, end-in}
 
@@ -50,3 +56,9 @@ module _ {c : Case} (s : Sound c) {t : Tables} (e : t ≡ tablesOf (itemsOf c)) 
 
   pub drift-is : (d : Counters) → getD (t .drifts .at) p d ≡ vecOf (λ j. drift (itemsOf c) j (firstOf (itemsOf c .places) p))
   drift-is d = values-at (length (itemsOf c .places)) (λ j i. drift (itemsOf c) j (firstOf (itemsOf c .places) i)) (ap (λ (t : Tables). t .drifts) e) p d h
+
+-- ---- the mark of sentence i at place p, against what the sentence is by f
+
+pub right-is : {c : Case} (s : Sound c) (p i : ℕ) (f : ℕ → Throughout) {b : Bool} {t : Throughout}
+    → b ≡ bit (getD (c .places) p (noItem kind.Place) .marks) i → t ≡ f p → cond b (isAlways t) (isNever t) ≡ isRight (itemsOf c) i f p
+right-is s p i f k r = ap₂ (λ (b : Bool) (t : Throughout). cond b (isAlways t) (isNever t)) (k ∙ ap (λ (y : Place). bit (y .marks) i) (at-places s p)) r

@@ -16,11 +16,11 @@ use Rattle.meaning.specs.Truth.{bit}
 use Rattle.meaning.specs.Judged.{marked}
 use Rattle.verdict.specs.Verdict.{nextThrough}
 use Rattle.tables.specs.Reads.{at-places}
-use Rattle.marks.specs.Wrong.{isRight}
-use Rattle.marks.specs.Search.{offFrom, off-start, down-start, down-off, down-on}
-use Rattle.marks.specs.Bits.{unmarked}
-use Rattle.tables.specs.Known.{first-within, end-within}
-use Rattle.marks.specs.Known.{next-is, right-is}
+use Rattle.rounds.specs.Wrong.{isRight}
+use Rattle.rounds.specs.Search.{offFrom, off-start, down-start, down-off, down-on}
+use Rattle.rounds.specs.Bits.{unmarked}
+use Rattle.tables.specs.Known.{first-within, end-within, right-is}
+use Rattle.marks.specs.Known.{next-is}
 use Rattle.marks.proofs.next_wrong.Statement.{statement}
 use Rattle.marks.proofs.next_wrong.Tie as tie
 

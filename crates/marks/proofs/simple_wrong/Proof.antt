@@ -10,9 +10,11 @@ use Rattle.items.specs.Lists.{Items}
 use Rattle.collector.specs.Cases.{itemsOf}
 use Rattle.rules_laws.specs.Held.{counted}
 use Rattle.verdict.specs.Rounds.{flag}
-use Rattle.marks.specs.Wrong.{isRight, wrongIn, simpleThrough}
-use Rattle.marks.specs.Search.{offFrom, off-start, off-here, off-later, off-end}
-use Rattle.marks.specs.Known.{state-within, simple-is, right-is}
+use Rattle.rounds.specs.Wrong.{isRight, wrongIn}
+use Rattle.rounds.specs.Search.{offFrom, off-start, off-here, off-later, off-end}
+use Rattle.tables.specs.Known.{right-is}
+use Rattle.marks.specs.Wrong.{simpleThrough}
+use Rattle.marks.specs.Known.{state-within, simple-is}
 use Rattle.marks.proofs.simple_wrong.Statement.{statement}
 use Rattle.marks.proofs.simple_wrong.Tie as tie
 

@@ -1,7 +1,6 @@
 -- From the last place that is held to the first: whatever labels the steps are of, first and last show their best sums at place p, and the first place from
 -- p on that is marked wrongly is known. (The terms of the until are no longer at hand in the loop, so its invariant is about all such labels.) Assumes nothing.
 use mathlib.Core.Path.{_≡_, sym, _∙_, ap, ap₂}
-use mathlib.Core.Bool.{Bool, cond}
 use mathlib.Core.Logic.{⊎-elim}
 use Prim.Native.Nat.{ℕ, _-_, _≤_, _<_}
 use native.Mathlib.Omega.{arith}
@@ -13,34 +12,30 @@ use mir.Val.{SFits, toZ, ofZ}
 use mir.Facts.{toZ-ofZ, sfits-widen}
 use Rattle.kinds.specs.declared.Kind.the-variants as kind
 use Rattle.items.specs.declared.LoopMark.{LoopMark}
-use Rattle.items.specs.declared.Place.{Place}
 use Rattle.items.specs.Lists.{Items, roomOf, noItem}
 use Rattle.collector.specs.Cases.{itemsOf}
 use Rattle.rules_laws.specs.Held.{counted}
 use Rattle.verdict.specs.Labels.{Label, labelOf}
-use Rattle.meaning.specs.Truth.{bit}
 use Rattle.meaning_laws.specs.Given.{facts}
 use Rattle.meaning.specs.Judged.{marked}
-use Rattle.verdict.specs.declared.Throughout.{Throughout}
 use Rattle.verdict.specs.Rounds.{firstOf, loopOf, agree}
-use Rattle.verdict.specs.Verdict.{isAlways, isNever}
+use Rattle.rounds.specs.Wrong.{isRight}
+use Rattle.rounds.specs.Search.{offFrom, off-start, off-end, down-off, down-on}
 use Rattle.maxplus.specs.declared.Ends.{Ends}
 use Rattle.maxplus.specs.Numbers.{entryAt, stepBy, aroundBy}
 use Rattle.maxplus.specs.Bounds.{Light}
 use Rattle.maxplus.specs.Shows.{StepsAre}
 use Rattle.tables.specs.Entries.{first-at}
-use Rattle.tables.specs.Reads.{at-places}
+use Rattle.tables.specs.Known.{right-is}
 use Rattle.tables.specs.Stretches.{first-below, mark-is, end-in}
 use borrow.Author.Needs.{needs, sfits-of}
 use borrow.Author.Tests.{not-true, not-false}
-use Rattle.marks.specs.Wrong.{isRight, untilsOf}
-use Rattle.marks.specs.Bits.{fits-size}
-use Rattle.marks.specs.Ranged.{mild-light}
-use Rattle.marks.specs.Steps.{steps-are}
-use Rattle.marks.specs.Search.{offFrom, off-start, off-end, down-off, down-on}
-use Rattle.marks.specs.Untils.{Shown, After, both-read, Turn, turn-read, turn-fits, turn-out, turn-on, turn-small, turn-step, shown-past, until-is}
-use Rattle.marks.proofs.until_wrong.Statement.{statement}
-use Rattle.marks.proofs.until_wrong.Tie as tie
+use Rattle.untils.specs.Sums.{untilsOf}
+use Rattle.untils.specs.Light.{fits-size, mild-light}
+use Rattle.untils.specs.Steps.{steps-are}
+use Rattle.untils.specs.Untils.{Shown, After, both-read, Turn, turn-read, turn-fits, turn-out, turn-on, turn-small, turn-step, shown-past, until-is}
+use Rattle.untils.proofs.until_wrong.Statement.{statement}
+use Rattle.untils.proofs.until_wrong.Tie as tie
 
 abbrev Inv-loop : tie.InvT-loop
 Inv-loop i a b bound c firsts steps z n wrong₀ first₀ last₀ p₀ wrong first last p =
@@ -254,8 +249,7 @@ module _ (c : tie.After-is-right Inv-loop μ-loop) where
       let u = toZ w64 (ofZ w64 (n .before .step .result)) in
       let v = toZ w64 (ofZ w64 (n .step2 .result)) in
       c .is-right .ensures
-      ∙ ap₂ (λ (m : Bool) (y : Throughout). cond m (isAlways y) (isNever y))
-      (c .before .bit .ensures ∙ ap (λ (y : Place). bit (y .marks) (t a .args .i)) (at-places (t a .pre .0) (p (k j))))
+      ∙ right-is (t a .pre .0) (p (k j)) (t a .args .i) (untilsOf (x a) l z) (c .before .bit .ensures)
       (c .before .before .agree .ensures ∙ ap (λ (y : ℤ). agree (leZ y u) (leZ y v)) (toZ-ofZ (cast-z a))
       ∙ until-is (x a) l (p (k j)) (few a) (next o) z (fits-size w32 z f))
 

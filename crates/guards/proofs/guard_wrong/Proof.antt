@@ -17,14 +17,13 @@ use Rattle.verdict.specs.declared.Throughout.{Throughout}
 use Rattle.verdict.specs.Rounds.{loopOf, roundsOf}
 use Rattle.verdict.specs.Verdict.{guardThrough}
 use Rattle.tables.specs.declared.Tables.{Tables}
 use Rattle.guards.specs.GuardSums.{Known}
-use Rattle.marks.specs.Wrong.{isRight, wrongIn}
-use Rattle.marks.specs.Search.{offFrom, off-start, off-here, off-later, off-end}
-use Rattle.tables.specs.Known.{first-within, rounds-are, base-is, drift-is}
-use Rattle.marks.specs.Known.{right-is}
-use Rattle.marks.specs.SentenceSums.{guard-fits, guard-is}
-use Rattle.marks.proofs.guard_wrong.Statement.{statement}
-use Rattle.marks.proofs.guard_wrong.Tie as tie
+use Rattle.rounds.specs.Wrong.{isRight, wrongIn}
+use Rattle.rounds.specs.Search.{offFrom, off-start, off-here, off-later, off-end}
+use Rattle.tables.specs.Known.{first-within, rounds-are, base-is, drift-is, right-is}
+use Rattle.guards.specs.SentenceSums.{guard-fits, guard-is}
+use Rattle.guards.proofs.guard_wrong.Statement.{statement}
+use Rattle.guards.proofs.guard_wrong.Tie as tie
 
 -- what guard g is over the rounds of each place
 abbrev guardOf : Items → ℕ → ℕ → Throughout

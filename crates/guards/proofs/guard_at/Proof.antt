@@ -8,8 +8,8 @@ use Rattle.items.specs.Lists.{noItem}
 use Rattle.rules_laws.specs.Held.{counted}
 use Rattle.tables.specs.Reads.{at-guards}
 use borrow.Author.Needs.{needs}
-use Rattle.marks.proofs.guard_at.Statement.{statement}
-use Rattle.marks.proofs.guard_at.Tie as tie
+use Rattle.guards.proofs.guard_at.Statement.{statement}
+use Rattle.guards.proofs.guard_at.Tie as tie
 
 mul-result : tie.Need-mul-result
 mul-result c = search needs

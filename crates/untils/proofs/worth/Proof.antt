@@ -4,8 +4,8 @@ use mir.Syntax.{w16}
 use mir.Val.{SFits}
 use mir.Facts.{toZ-ofZ}
 use borrow.Author.Needs.{needs}
-use Rattle.marks.proofs.worth.Statement.{statement}
-use Rattle.marks.proofs.worth.Tie as tie
+use Rattle.untils.proofs.worth.Statement.{statement}
+use Rattle.untils.proofs.worth.Tie as tie
 
 enum-told : tie.Need-enum-told
 enum-told c = search needs

@@ -27,7 +27,7 @@ use Rattle.maxplus.specs.Numbers.{none, stopOf, goOf, stepBy, aroundBy}
 use Rattle.maxplus.specs.Bounds.{Light, FewRounds, small, Tame}
 use Rattle.maxplus.specs.Stretches.{stretch-room, stretch-few}
 use Rattle.maxplus.specs.Shows.{Shows, stretchFar, placeFar, shows-none, shows-step, shows-small, shows-bound, shows-wider, shows-around, StepsAre, steps-tame}
-use Rattle.marks.specs.Wrong.{untilsOf}
+use Rattle.untils.specs.Sums.{untilsOf}
 
 -- u and v show the best sums of a place
 pub record ShowBoth (B : ℕ) (y : Front) (u v : ℤ) : Type 0 where

@@ -3,7 +3,7 @@ use mathlib.Core.Path.{_≡_, _∙_, sym, ap}
 use mathlib.Core.Bool.{Bool, true, false, cond}
 use Prim.Native.Nat.{ℕ, suc, _+_, _-_, _≤_, _<_}
 use native.Mathlib.Omega.{arith}
-use Rattle.marks.specs.Wrong.{firstOff}
+use Rattle.rounds.specs.Wrong.{firstOff}
 
 module _ (ok : ℕ → Bool) (n : ℕ) where
   -- what is found from p on

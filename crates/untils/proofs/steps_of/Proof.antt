@@ -22,10 +22,10 @@ use Rattle.maxplus.specs.declared.Steps.{Steps}
 use Rattle.maxplus.specs.Numbers.{none, choiceBy}
 use Rattle.tables.specs.Reads.{at-places}
 use borrow.Author.Needs.{needs, sfits-of}
-use Rattle.marks.specs.Bits.{fits-size}
-use Rattle.marks.specs.Steps.{Ready, ready-none, ready-more, ready-all, stopAt, goAt, stop-past, go-past}
-use Rattle.marks.proofs.steps_of.Statement.{statement}
-use Rattle.marks.proofs.steps_of.Tie as tie
+use Rattle.untils.specs.Light.{fits-size}
+use Rattle.untils.specs.Steps.{Ready, ready-none, ready-more, ready-all, stopAt, goAt, stop-past, go-past}
+use Rattle.untils.proofs.steps_of.Statement.{statement}
+use Rattle.untils.proofs.steps_of.Tie as tie
 
 abbrev Inv-loop : tie.InvT-loop
 Inv-loop a b t u c n stops₀ goes₀ p₀ stops goes p =

@@ -17,13 +17,13 @@ use Rattle.items.specs.declared.Term.{Term}
 use Rattle.items.specs.Lists.{Items, roomOf}
 use Rattle.meaning.specs.Judged.{marked}
 use Rattle.verdict.specs.Labels.{Label, weightOf}
+use Rattle.rounds.specs.Bits.{unmarked}
 use Rattle.maxplus.specs.declared.Steps.{Steps}
 use Rattle.maxplus.specs.Numbers.{none, entryAt, choiceBy, stopOf, goOf}
 use Rattle.maxplus.specs.Shows.{StepsAre}
 use Rattle.tables.specs.Entries.{entry}
 use Rattle.tables.specs.Reads.{at-left}
-use Rattle.marks.specs.Wrong.{stepsOf}
-use Rattle.marks.specs.Bits.{unmarked}
+use Rattle.untils.specs.Sums.{stepsOf}
 
 -- of n entries, those below k are done, and there is nothing to do from m on
 pub record Ready {A : Type 0} (g : ℕ → A) (n m : ℕ) (z : A) (xs : List A) (k : ℕ) : Type 0 where

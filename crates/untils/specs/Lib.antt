@@ -1,0 +1,4 @@
+pub mod Sums
+pub mod Light
+pub mod Steps
+pub mod Untils
