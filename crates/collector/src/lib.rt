@@ -27,6 +27,8 @@ use items::State;
 use kinds::Counts;
 use kinds::Kind;
 use kinds::PerCounter;
+use record::Content;
+use record::Field;
 use record::Record;
 
 // The last loop so far: the place after it (0 where there is no loop), and whether it is endless. It follows from the places.
@@ -231,7 +233,7 @@ fn answer_of(count: Counts, loops: Loops, kind: Kind, row: Record) -> Answer
     ordered_answer(count, loops, kind, row)
 }
 
-// What stands where no guard, no move and no place is held yet.
+// What stands where no guard and no place is held yet.
 fn no_guard() -> Guard
     ensures { λ r. ⌜ r ≡ noItem kind.Guard ⌝ }
 {
@@ -240,20 +242,6 @@ fn no_guard() -> Guard
             at: [0i16; PerCounter::COUNT],
         },
         bound: 0,
-    }
-}
-
-fn no_move() -> Move
-    ensures { λ r. ⌜ r ≡ noItem kind.Move ⌝ }
-{
-    Move {
-        from: 0,
-        to: 0,
-        updates: PerCounter {
-            at: [0i16; PerCounter::COUNT],
-        },
-        guard1: Ref::None,
-        guard2: Ref::None,
     }
 }
 
@@ -287,7 +275,7 @@ impl Case {
         + Case::SENTENCES
         + Case::PLACES;
 
-    // The case that holds nothing.
+    // The case that holds nothing. (Its moves are those of a blank row: one that is written out is filled in piece by piece, which takes longer.)
     pub fn empty() -> Case
         ensures { λ r. ⌜ r ≡ emptyCase ⌝ }
     {
@@ -300,7 +288,13 @@ impl Case {
         };
         let states = [State { propositions: 0 }; Case::STATES];
         let guards = [no_guard(); Case::GUARDS];
-        let moves = [no_move(); Case::MOVES];
+        let blank = Field {
+            content: Content::Blank,
+        };
+        let row = Record {
+            fields: [blank; Record::FIELDS],
+        };
+        let moves = [items::move_of(row); Case::MOVES];
         let sentences = [Sentence { form: Form::True }; Case::SENTENCES];
         let places = [no_place(); Case::PLACES];
         Case {
