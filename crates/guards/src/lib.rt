@@ -62,9 +62,10 @@ fn guard_at(c: Case, g: u8) -> Guard
     requires { ⌜ Sound c ⌝ }
     ensures { λ r. ⌜ r ≡ guardAt (itemsOf c .guards) g ⌝ }
 {
+    let guards = c.guards;
     let i = g as usize;
     if i < Case::GUARDS {
-        return c.guards[i];
+        return guards[i];
     }
     Guard {
         coefficients: PerCounter {
@@ -79,19 +80,19 @@ pub fn guard_wrong(c: Case, t: Tables, i: u8, g: u8) -> usize
     requires { ⌜ (Sound c) × (t ≡ tablesOf (itemsOf c)) ⌝ }
     ensures { λ r. ⌜ r ≡ wrongIn (itemsOf c) i (guardThrough (itemsOf c) (startOf (itemsOf c)) (guardAt (itemsOf c .guards) g)) ⌝ }
 {
+    let places = c.places;
     let guard = guard_at(c, g);
     let firsts = t.firsts;
     let drifts = t.drifts;
     let bases = t.bases;
-    let n = c.count.places;
     let mut p: usize = 0;
-    while p < n {
+    while p < c.count.places {
         let q = firsts.at[p] as usize;
-        let first = c.places[q];
+        let first = places[q];
         let mark = first.mark;
         let base = bases.at[p];
         let drift = drifts.at[p];
-        let place = c.places[p];
+        let place = places[p];
         let t = guard_through(guard, base, drift, false, rounds::rounds_of(mark));
         if rounds::is_right(t, rounds::bit(place.marks, i)) {
             p = p + 1;

@@ -106,12 +106,13 @@ fn simple_wrong(c: Case, i: u8, form: Form) -> usize
     requires { ⌜ Sound c ⌝ }
     ensures { λ r. ⌜ r ≡ wrongIn (itemsOf c) i (simpleThrough (itemsOf c) form) ⌝ }
 {
-    let n = c.count.places;
+    let states = c.states;
+    let places = c.places;
     let mut p: usize = 0;
-    while p < n {
-        let place = c.places[p];
+    while p < c.count.places {
+        let place = places[p];
         let s = place.state as usize;
-        let state = c.states[s];
+        let state = states[s];
         let t = rounds::flag(same_always(form, state.propositions, place.marks));
         if rounds::is_right(t, rounds::bit(place.marks, i)) {
             p = p + 1;
@@ -128,11 +129,12 @@ pub fn wrong_mark(c: Case, t: Tables) -> Search
     ensures { λ r. ⌜ r ≡ toldMark (firstNot (markRight (itemsOf c) (startOf (itemsOf c))) (marksOf (itemsOf c))) ⌝ }
 {
     let firsts = t.firsts;
+    let sentences = c.sentences;
     let n = c.count.sentences;
     let places = c.count.places;
     let mut i: usize = 0;
     while i < n {
-        let sentence = c.sentences[i];
+        let sentence = sentences[i];
         let form = sentence.form;
         let k = i as u8;
         let p = match form {

@@ -36,12 +36,12 @@ fn steps_of(c: Case, a: u8, b: u8, t: Term, u: Term) -> Steps
     requires { ⌜ Sound c ⌝ }
     ensures { λ r. ⌜ r ≡ stepsOf (labelOf (marked (itemsOf c)) a b t u) ⌝ }
 {
-    let n = c.count.places;
+    let places = c.places;
     let mut stops = [maxplus::NONE; Case::PLACES];
     let mut goes = [maxplus::NONE; Case::PLACES];
     let mut p: usize = 0;
-    while p < n {
-        let place = c.places[p];
+    while p < c.count.places {
+        let place = places[p];
         let marks = place.marks;
         let weight = (worth(marks, t) as i64) + (worth(marks, u) as i64);
         stops[p] = maxplus::choice(rounds::bit(marks, b), 0);

@@ -14,16 +14,16 @@ use Rattle.guards.proofs.guard_at.Tie as tie
 mul-result : tie.Need-mul-result
 mul-result c = search needs
 
-element-copy-out-result : tie.Need-element-copy-out-result
-element-copy-out-result c = search needs
+array-copy-out-result : tie.Need-array-copy-out-result
+array-copy-out-result c = search needs
 
 returns : tie.Need-returns
-returns c = at-guards (c .before .before .pre) (c .before .before .args .g) _ (omega arith)
+returns c = at-guards (c .before .before .before .pre) (c .before .before .before .args .g) _ (omega arith)
 
 returns-2 : tie.Need-returns-2
 returns-2 c =
-    let t = c .before in
-    sym (List·getD-eq-default (itemsOf (t .args .t1) .guards) (noItem kind.Guard) {n = t .args .g} (omega (arith, counted (t .args .t1) (t .pre) kind.Guard, t .pre .room kind.Guard)))
+    let t = c .before .before in
+    sym (List·getD-eq-default (itemsOf (t .args .c) .guards) (noItem kind.Guard) {n = t .args .g} (omega (arith, counted (t .args .c) (t .pre) kind.Guard, t .pre .room kind.Guard)))
 
 pub guard-at-spec : {M : Type 1} → statement M
-guard-at-spec = tie.close (tie.spec mul-result element-copy-out-result returns returns-2)
+guard-at-spec = tie.close (tie.spec mul-result array-copy-out-result returns returns-2)

@@ -30,17 +30,17 @@ abbrev guardOf : Items → ℕ → ℕ → Throughout
 guardOf x g = guardThrough x (startOf x) (guardAt (x .guards) g)
 
 abbrev Inv-loop : tie.InvT-loop
-Inv-loop i g c guard firsts drifts bases n p₀ p =
+Inv-loop c i g places guard firsts drifts bases p₀ p =
     let x = itemsOf c in
     wrongIn x i (guardOf x g) ≡ offFrom (isRight x i (guardOf x g)) (length (x .places)) p
 
 abbrev μ-loop : tie.MeasureT-loop
-μ-loop i g c guard firsts drifts bases n p₀ p = n - p
+μ-loop c i g places guard firsts drifts bases p₀ p = c .count .places - p
 
 -- the items, the number of places and the test
 module _ (c : tie.Start Inv-loop μ-loop) where
   abbrev x : Items
-  x = itemsOf (c .args .t1)
+  x = itemsOf (c .args .c)
 
   abbrev n : ℕ
   n = length (x .places)
@@ -48,16 +48,16 @@ module _ (c : tie.Start Inv-loop μ-loop) where
   abbrev ok : ℕ → Bool
   ok = isRight x (c .args .i) (guardOf x (c .args .g))
 
-  held : n ≡ c .args .t1 .count .places
-  held = counted (c .args .t1) (c .pre .0) kind.Place
+  held : n ≡ c .args .c .count .places
+  held = counted (c .args .c) (c .pre .0) kind.Place
 
 -- place p, which is held
-module _ (c : tie.In-loop Inv-loop μ-loop) where
+module _ (c : tie.Then1 Inv-loop μ-loop) where
   abbrev t : tie.Start Inv-loop μ-loop
-  t = c .before .before .before .before .before .before
+  t = c .before .before .before .before .before .before .before .before
 
   abbrev p : ℕ
-  p = c .before .loop .p
+  p = c .before .before .loop .p
 
   inside : p < n t
   inside = omega (arith, held t)
@@ -72,7 +72,7 @@ guard-at-requires : tie.Need-guard-at-requires Inv-loop μ-loop
 guard-at-requires c κs = search needs
 
 loop-holds : tie.Need-loop-holds Inv-loop μ-loop
-loop-holds c = off-start (ok (c .before .before .before .before)) (n (c .before .before .before .before))
+loop-holds c = let s = c .before .before .before .before .before in off-start (ok s) (n s)
 
 element-copy-out-q : tie.Need-element-copy-out-q Inv-loop μ-loop
 element-copy-out-q c = room c
@@ -83,8 +83,8 @@ cast-q c = omega (arith, within (c .before))
 mul-first : tie.Need-mul-first Inv-loop μ-loop
 mul-first c = omega (arith, within (c .before))
 
-element-copy-out-first : tie.Need-element-copy-out-first Inv-loop μ-loop
-element-copy-out-first c = within (c .before)
+array-copy-out-first : tie.Need-array-copy-out-first Inv-loop μ-loop
+array-copy-out-first c = within (c .before)
 
 mul-base : tie.Need-mul-base Inv-loop μ-loop
 mul-base c = omega (arith, room (c .before .before))
@@ -101,25 +101,25 @@ element-copy-out-drift c = room (c .before .before .before)
 mul-place : tie.Need-mul-place Inv-loop μ-loop
 mul-place c = omega (arith, room (c .before .before .before .before))
 
-element-copy-out-place : tie.Need-element-copy-out-place Inv-loop μ-loop
-element-copy-out-place c = room (c .before .before .before .before)
+array-copy-out-place : tie.Need-array-copy-out-place Inv-loop μ-loop
+array-copy-out-place c = room (c .before .before .before .before)
 
 rounds-of-requires : tie.Need-rounds-of-requires Inv-loop μ-loop
 rounds-of-requires c κs = search needs
 
 -- what is read there
 module _ (c : tie.After-rounds-of Inv-loop μ-loop) where
-  abbrev l : tie.In-loop Inv-loop μ-loop
+  abbrev l : tie.Then1 Inv-loop μ-loop
   l = c .before .before .before .before .before .before
 
   known :
-      Known (x (t l)) (startOf (x (t l))) (t l .args .g) (p l) (l .before .before .before .before .before .guard-at .result)
+      Known (x (t l)) (startOf (x (t l))) (t l .args .g) (p l) (l .before .before .before .before .before .before .guard-at .result)
       (getD (t l .args .t .bases .at) (p l) (record { at = [] })) (getD (t l .args .t .drifts .at) (p l) (record { at = [] }))
   known =
       let s = t l .pre .0 in
       let e = t l .pre .1 in
       record {
-        guard = l .before .before .before .before .before .guard-at .ensures;
+        guard = l .before .before .before .before .before .before .guard-at .ensures;
         base = base-is s e (p l) (inside l) _;
         drift = drift-is s e (p l) (inside l) _;
       }
@@ -128,7 +128,7 @@ module _ (c : tie.After-rounds-of Inv-loop μ-loop) where
   rounds = c .rounds-of .ensures ∙ rounds-are (t l .pre .0) (ap (λ (t : Tables). t .firsts) (t l .pre .1)) (p l) (room l)
 
 guard-through-requires : tie.Need-guard-through-requires Inv-loop μ-loop
-guard-through-requires c κs = guard-fits (facts (t (l c) .args .t1) (t (l c) .pre .0)) (known c) (rounds c) (room (l c))
+guard-through-requires c κs = guard-fits (facts (t (l c) .args .c) (t (l c) .pre .0)) (known c) (rounds c) (room (l c))
 
 bit-requires : tie.Need-bit-requires Inv-loop μ-loop
 bit-requires c κs = search needs
@@ -138,11 +138,11 @@ is-right-requires c κs = search needs
 
 -- the test made is that of place p
 module _ (c : tie.After-is-right Inv-loop μ-loop) where
-  abbrev i : tie.In-loop Inv-loop μ-loop
+  abbrev i : tie.Then1 Inv-loop μ-loop
   i = l (c .before .before .before)
 
   is : c .before .before .guard-through .result ≡ guardOf (x (t i)) (t i .args .g) (p i)
-  is = c .before .before .guard-through .ensures ∙ guard-is (facts (t i .args .t1) (t i .pre .0)) (known (c .before .before .before)) (rounds (c .before .before .before))
+  is = c .before .before .guard-through .ensures ∙ guard-is (facts (t i .args .c) (t i .pre .0)) (known (c .before .before .before)) (rounds (c .before .before .before))
 
   test : c .is-right .result ≡ ok (t i) (p i)
   test = c .is-right .ensures ∙ right-is (t i .pre .0) (p i) (t i .args .i) (guardOf (x (t i)) (t i .args .g)) (c .before .bit .ensures) is
@@ -156,17 +156,17 @@ loop-less c = omega arith
 loop-again : tie.Need-loop-again Inv-loop μ-loop
 loop-again c =
     let m = i (c .before) in
-    m .before .loop .inv ∙ off-later (ok (t m)) (n (t m)) (p m) (inside m) (sym (test (c .before)) ∙ c .if1 .taken)
+    m .before .before .loop .inv ∙ off-later (ok (t m)) (n (t m)) (p m) (inside m) (sym (test (c .before)) ∙ c .if2 .taken)
 
 returns : tie.Need-returns Inv-loop μ-loop
 returns c =
     let m = i (c .before) in
-    sym (m .before .loop .inv ∙ off-here (ok (t m)) (n (t m)) (p m) (inside m) (sym (test (c .before)) ∙ c .if1 .left))
+    sym (m .before .before .loop .inv ∙ off-here (ok (t m)) (n (t m)) (p m) (inside m) (sym (test (c .before)) ∙ c .if2 .left))
 
 returns-2 : tie.Need-returns-2 Inv-loop μ-loop
 returns-2 c =
-    let s = c .before .before .before .before .before .before in
-    sym (c .before .loop .inv ∙ off-end (ok s) (n s) (c .before .loop .p) (omega (arith, held s)))
+    let s = c .before .before .before .before .before .before .before .before in
+    sym (c .before .before .loop .inv ∙ off-end (ok s) (n s) (c .before .before .loop .p) (omega (arith, held s)))
 
 pub guard-wrong-spec : {M : Type 1} → statement M
 guard-wrong-spec =
@@ -179,13 +179,13 @@ guard-wrong-spec =
     element-copy-out-q
     cast-q
     mul-first
-    element-copy-out-first
+    array-copy-out-first
     mul-base
     element-copy-out-base
     mul-drift
     element-copy-out-drift
     mul-place
-    element-copy-out-place
+    array-copy-out-place
     rounds-of-requires
     guard-through-requires
     bit-requires

@@ -25,15 +25,15 @@ use Rattle.marks.proofs.wrong_mark.Statement.{statement}
 use Rattle.marks.proofs.wrong_mark.Tie as tie
 
 abbrev Inv-loop : tie.InvT-loop
-Inv-loop t c firsts n places i₀ i = toldMark (firstNot (markRight (itemsOf c) (startOf (itemsOf c))) (marksOf (itemsOf c))) ≡ rowsFrom (itemsOf c) i
+Inv-loop c t firsts sentences n places i₀ i = toldMark (firstNot (markRight (itemsOf c) (startOf (itemsOf c))) (marksOf (itemsOf c))) ≡ rowsFrom (itemsOf c) i
 
 abbrev μ-loop : tie.MeasureT-loop
-μ-loop t c firsts n places i₀ i = n - i
+μ-loop c t firsts sentences n places i₀ i = n - i
 
 -- what is given: the case, its items, the first places, and as many sentences and places as are counted
 module _ (c : tie.Start Inv-loop μ-loop) where
   abbrev k : Case
-  k = c .args .t1
+  k = c .args .c
 
   abbrev x : Items
   x = itemsOf k
@@ -53,7 +53,7 @@ module _ (c : tie.Start Inv-loop μ-loop) where
 -- in a turn: what is given, and the sentence
 module _ (c : tie.In-loop Inv-loop μ-loop) where
   abbrev b : tie.Start Inv-loop μ-loop
-  b = c .before .before .before
+  b = c .before .before .before .before
 
   abbrev i : ℕ
   i = c .before .loop .i
@@ -62,13 +62,13 @@ module _ (c : tie.In-loop Inv-loop μ-loop) where
   below = omega (arith, sound b .room kind.Sentence)
 
 loop-holds : tie.Need-loop-holds Inv-loop μ-loop
-loop-holds c = rows-start (x (c .before))
+loop-holds c = rows-start (x (c .before .before))
 
 mul-sentence : tie.Need-mul-sentence Inv-loop μ-loop
 mul-sentence c = omega (arith, below c)
 
-element-copy-out-sentence : tie.Need-element-copy-out-sentence Inv-loop μ-loop
-element-copy-out-sentence c = below c
+array-copy-out-sentence : tie.Need-array-copy-out-sentence Inv-loop μ-loop
+array-copy-out-sentence c = below c
 
 cast-k : tie.Need-cast-k Inv-loop μ-loop
 cast-k c = omega (arith, below (c .before))
@@ -159,7 +159,7 @@ loop-again c =
 
 returns-2 : tie.Need-returns-2 Inv-loop μ-loop
 returns-2 c =
-    let t = c .before .before .before in
+    let t = c .before .before .before .before in
     sym (c .before .loop .inv ∙ rows-end (x t) (c .before .loop .i) (omega (arith, sentences t)))
 
 pub wrong-mark-spec : {M : Type 1} → statement M
@@ -170,7 +170,7 @@ wrong-mark-spec =
     μ-loop
     loop-holds
     mul-sentence
-    element-copy-out-sentence
+    array-copy-out-sentence
     cast-k
     enum-told
     simple-wrong-requires

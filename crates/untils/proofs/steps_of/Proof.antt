@@ -28,43 +28,43 @@ use Rattle.untils.proofs.steps_of.Statement.{statement}
 use Rattle.untils.proofs.steps_of.Tie as tie
 
 abbrev Inv-loop : tie.InvT-loop
-Inv-loop a b t u c n stops₀ goes₀ p₀ stops goes p =
+Inv-loop c a b t u places stops₀ goes₀ p₀ stops goes p =
     (Ready (stopAt (itemsOf c) b) (roomOf kind.Place) (c .count .places) none stops p)
     × (Ready (goAt (itemsOf c) a t u) (roomOf kind.Place) (c .count .places) none goes p)
 
 abbrev μ-loop : tie.MeasureT-loop
-μ-loop a b t u c n stops₀ goes₀ p₀ stops goes p = n - p
+μ-loop c a b t u places stops₀ goes₀ p₀ stops goes p = c .count .places - p
 
-module _ (c : tie.In-loop Inv-loop μ-loop) where
+module _ (c : tie.Then1 Inv-loop μ-loop) where
   abbrev t : tie.Start Inv-loop μ-loop
-  t = c .before .before
+  t = c .before .before .before .before
 
   abbrev p : ℕ
-  p = c .before .loop .p
+  p = c .before .before .loop .p
 
   below : p < roomOf kind.Place
-  below = omega (arith, c .loop-test .taken, t .pre .room kind.Place)
+  below = omega (arith, c .if1 .taken, t .pre .room kind.Place)
 
   -- a mark as the code reads it
-  mark-is : (s : ℕ) → bit (getD (t .args .t1 .places) p (noItem kind.Place) .marks) s ≡ marked (itemsOf (t .args .t1)) s p
+  mark-is : (s : ℕ) → bit (getD (t .args .c .places) p (noItem kind.Place) .marks) s ≡ marked (itemsOf (t .args .c)) s p
   mark-is s = ap (λ (y : Place). bit (y .marks) s) (at-places (t .pre) p)
 
   -- what a term adds, so
-  worth-is : (u : Term) → worth (bit (getD (t .args .t1 .places) p (noItem kind.Place) .marks)) u ≡ worth (λ s. marked (itemsOf (t .args .t1)) s p) u
+  worth-is : (u : Term) → worth (bit (getD (t .args .c .places) p (noItem kind.Place) .marks)) u ≡ worth (λ s. marked (itemsOf (t .args .c)) s p) u
   worth-is u = ap (λ (y : Place). worth (bit (y .marks)) u) (at-places (t .pre) p)
 
 loop-holds : tie.Need-loop-holds Inv-loop μ-loop
 loop-holds c =
-    let y = c .args in
-    let x = itemsOf (y .t1) in
-    let h = counted (y .t1) (c .pre) kind.Place in
+    let y = c .before .args in
+    let x = itemsOf (y .c) in
+    let h = counted (y .c) (c .before .pre) kind.Place in
     (ready-none (λ i k. stop-past x (y .b) i (omega (arith, h))), ready-none (λ i k. go-past x (y .a) (y .t) (y .u) i (omega (arith, h))))
 
 mul-place : tie.Need-mul-place Inv-loop μ-loop
 mul-place c = omega (arith, below c)
 
-element-copy-out-place : tie.Need-element-copy-out-place Inv-loop μ-loop
-element-copy-out-place c = below c
+array-copy-out-place : tie.Need-array-copy-out-place Inv-loop μ-loop
+array-copy-out-place c = below c
 
 worth-requires : tie.Need-worth-requires Inv-loop μ-loop
 worth-requires c κs = search needs
@@ -86,7 +86,7 @@ cast-weight-2 c = rw (toZ-ofZ (fits2 c)) (sfits-widen tt (fits2 c))
 
 module _ (c : tie.After-worth2 Inv-loop μ-loop) where
   -- the place of this turn
-  abbrev i : tie.In-loop Inv-loop μ-loop
+  abbrev i : tie.Then1 Inv-loop μ-loop
   i = c .before .before .before
 
   first-read : toZ w64 (ofZ w64 (toZ w16 (ofZ w16 (c .before .worth .result)))) ≡ c .before .worth .result
@@ -129,7 +129,7 @@ add-p : tie.Need-add-p Inv-loop μ-loop
 add-p c = omega (arith, below (i (c .before .before .before .before)))
 
 loop-less : tie.Need-loop-less Inv-loop μ-loop
-loop-less c = omega (arith, i (c .before .before .before .before) .loop-test .taken)
+loop-less c = omega (arith, i (c .before .before .before .before) .if1 .taken)
 
 loop-again : tie.Need-loop-again Inv-loop μ-loop
 unfolding weightOf
@@ -142,13 +142,13 @@ loop-again c =
     let h =
     toZ-ofZ (sfits-of (c .choice2 .ok)) ∙ c .choice2 .ensures
     ∙ ap₂ choiceBy (c .before .bit2 .ensures ∙ mark-is k _) (add-read w64 (first-read w) (second-read w) (small w) ∙ v) in
-    (ready-more e (below k) (k .before .loop .inv .0), ready-more h (below k) (k .before .loop .inv .1))
+    (ready-more e (below k) (k .before .before .loop .inv .0), ready-more h (below k) (k .before .before .loop .inv .1))
 
 returns : tie.Need-returns Inv-loop μ-loop
 returns c =
-    let m = c .before .loop in
+    let m = c .before .before .loop in
     ap₂ {C = Steps} (λ (a b : List ℤ). record { stops = a; goes = b })
-    (ready-all (c .loop-test .left) (m .inv .0)) (ready-all (c .loop-test .left) (m .inv .1))
+    (ready-all (c .if1 .left) (m .inv .0)) (ready-all (c .if1 .left) (m .inv .1))
 
 pub steps-of-spec : {M : Type 1} → statement M
 steps-of-spec =
@@ -158,7 +158,7 @@ steps-of-spec =
     μ-loop
     loop-holds
     mul-place
-    element-copy-out-place
+    array-copy-out-place
     worth-requires
     cast-weight
     worth-requires-2
