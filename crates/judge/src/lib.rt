@@ -37,7 +37,8 @@ pub fn judge(c: Case) -> Judgement
     if !finished(count, loops) {
         return Judgement::Unfinished(count.total());
     }
-    let first = c.places[0];
+    let places = c.places;
+    let first = places[0];
     if first.state != 0 {
         return Judgement::WrongStart;
     }

@@ -105,18 +105,19 @@ pub fn unconnected(c: Case) -> Search
     requires { ⌜ Sound c ⌝ }
     ensures { λ r. ⌜ r ≡ toldWay (itemsOf c) (firstNot (connects (itemsOf c)) (waysOf (itemsOf c))) ⌝ }
 {
-    let n = c.count.places;
+    let moves = c.moves;
+    let places = c.places;
     let mut k: usize = 0;
-    while k < 2 * n {
+    while k < 2 * c.count.places {
         let p = k / 2;
         let back = k % 2 == 1;
-        let place = c.places[p];
+        let place = places[p];
         let mark = place.mark;
         let r = move_into(place, back);
         let t = number(r);
-        let m = c.moves[t as usize];
+        let m = moves[t as usize];
         let q = place_before(p, mark, back);
-        let before = c.places[q];
+        let before = places[q];
         if breaks(r, m, before.state, place.state) {
             return Search::At(PlaceNo(p), t);
         }
@@ -175,24 +176,26 @@ pub fn guard_fails(c: Case, t: Tables) -> Search
     requires { ⌜ (Sound c) × (t ≡ tablesOf (itemsOf c)) ⌝ }
     ensures { λ r. ⌜ r ≡ toldTest (firstNot (passes (itemsOf c) (startOf (itemsOf c))) (testsOf (itemsOf c))) ⌝ }
 {
-    let n = c.count.places;
+    let guards = c.guards;
+    let moves = c.moves;
+    let places = c.places;
     let firsts = t.firsts;
     let drifts = t.drifts;
     let bases = t.bases;
     let mut k: usize = 0;
-    while k < 4 * n {
+    while k < 4 * c.count.places {
         let w = k / 2;
         let p = w / 2;
         let back = w % 2 == 1;
-        let place = c.places[p];
+        let place = places[p];
         let own = place.mark;
         let r = move_into(place, back);
-        let m = c.moves[number(r) as usize];
+        let m = moves[number(r) as usize];
         let q = given(r, guard_by(m, k % 2 == 1));
         let u = number(q);
-        let g = c.guards[u as usize];
+        let g = guards[u as usize];
         let f = firsts.at[p] as usize;
-        let first = c.places[f];
+        let first = places[f];
         let around = first.mark;
         let base = bases.at[p];
         let drift = drifts.at[p];

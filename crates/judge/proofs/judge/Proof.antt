@@ -31,14 +31,14 @@ use Rattle.judge.proofs.judge.Tie as tie
 
 module _ (c : tie.After-unconnected) where
   abbrev t : tie.Start
-  t = c .before .before .before .before .before .before .before .before
+  t = c .before .before .before .before .before .before .before .before .before
 
   abbrev x : Items
-  x = itemsOf (t .args .t1)
+  x = itemsOf (t .args .c)
 
   by-way : verdict x (startOf x) ≡ orUnconnected (c .unconnected .result) (guardsAnswer x)
   by-way =
-      let d = c .before .before .before .before in
+      let d = c .before .before .before .before .before in
       started (t .pre) (d .before .finished .ensures) (not-false _ (d .if1 .left)) (c .before .if2 .left)
       ∙ ap (λ s. orUnconnected s (guardsAnswer x)) (sym (c .unconnected .ensures))
 
@@ -83,12 +83,12 @@ returns c =
     let d = c .before in
     ap Unfinished (c .total .ensures) ∙ sym (unfinished (d .before .before .before .before .pre) (d .before .finished .ensures) (not-true _ (d .if1 .taken)))
 
-element-copy-out-first : tie.Need-element-copy-out-first
-element-copy-out-first c = search needs
+array-copy-out-first : tie.Need-array-copy-out-first
+array-copy-out-first c = search needs
 
 returns-2 : tie.Need-returns-2
 returns-2 c =
-    let d = c .before .before .before in
+    let d = c .before .before .before .before in
     sym (wrong-start (d .before .before .before .before .pre) (d .before .finished .ensures) (not-false _ (d .if1 .left)) (c .if2 .taken))
 
 unconnected-requires : tie.Need-unconnected-requires
@@ -165,7 +165,7 @@ judge-spec =
     finished-requires
     total-requires
     returns
-    element-copy-out-first
+    array-copy-out-first
     returns-2
     unconnected-requires
     enum-known-way
