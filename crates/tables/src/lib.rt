@@ -103,12 +103,13 @@ fn drifts(c: Case, f: Firsts, w: Table) -> Table
     requires { ⌜ Sound c × (f ≡ firstsOf (itemsOf c .places)) × (w ≡ waySumsOf (itemsOf c)) ⌝ }
     ensures { λ r. ⌜ r ≡ driftsOf (itemsOf c) ⌝ }
 {
-    let n = c.count.places;
+    let moves = c.moves;
+    let places = c.places;
     let mut at = [counters::zero(); Case::PLACES];
     let mut p: usize = 0;
-    while p < n {
+    while p < c.count.places {
         let q = f.at[p] as usize;
-        let place = c.places[q];
+        let place = places[q];
         let mark = place.mark;
         let e = q + rounds::stretch(mark) - 1;
         let x = w.at[e];
@@ -116,7 +117,7 @@ fn drifts(c: Case, f: Firsts, w: Table) -> Table
         let mut d = counters::more(x, -1, y);
         let t = back_slot(mark);
         if t < Case::MOVES {
-            let m = c.moves[t];
+            let m = moves[t];
             let u = m.updates;
             d = counters::more(d, 1, counters::widened(u));
         }
@@ -138,16 +139,16 @@ fn bases(c: Case, f: Firsts, w: Table, d: Table) -> Table
     requires { ⌜ Sound c × (f ≡ firstsOf (itemsOf c .places)) × (w ≡ waySumsOf (itemsOf c)) × (d ≡ driftsOf (itemsOf c)) ⌝ }
     ensures { λ r. ⌜ r ≡ basesOf (itemsOf c) ⌝ }
 {
-    let n = c.count.places;
+    let places = c.places;
     let mut at = [counters::zero(); Case::PLACES];
     let mut r = start(c);
     let mut p: usize = 0;
-    while p < n {
+    while p < c.count.places {
         let x = w.at[p];
         let y = d.at[p];
         at[p] = counters::more(x, 1, r);
         let q = f.at[p] as usize;
-        let place = c.places[q];
+        let place = places[q];
         let mark = place.mark;
         p = p + 1;
         if q + rounds::stretch(mark) <= p {

@@ -28,22 +28,22 @@ use Rattle.tables.proofs.bases.Statement.{statement}
 use Rattle.tables.proofs.bases.Tie as tie
 
 abbrev Inv-loop : tie.InvT-loop
-Inv-loop c f w d n at₀ r₀ p₀ at r p =
+Inv-loop c f w d places at₀ r₀ p₀ at r p =
     (p ≤ c .count .places) × (r ≡ vecOf (λ j. roundsBefore (itemsOf c) (startOf (itemsOf c)) j p)) × Begun (base (itemsOf c) (startOf (itemsOf c))) at p
 
 abbrev μ-loop : tie.MeasureT-loop
-μ-loop c f w d n at₀ r₀ p₀ at r p = n - p
+μ-loop c f w d places at₀ r₀ p₀ at r p = c .count .places - p
 
-module _ (i : tie.In-loop Inv-loop μ-loop) where
+module _ (i : tie.Then1 Inv-loop μ-loop) where
   abbrev l : tie.At-loop Inv-loop μ-loop
-  l = i .before
+  l = i .before .before
 
   abbrev t : tie.Start Inv-loop μ-loop
-  t = l .before .before .before
+  t = l .before .before .before .before
 
   -- the items, and the place that is filled
   abbrev x : Items
-  x = itemsOf (t .args .t1)
+  x = itemsOf (t .args .c)
 
   abbrev p : ℕ
   p = l .loop .p
@@ -56,7 +56,7 @@ module _ (i : tie.In-loop Inv-loop μ-loop) where
   read = getD (t .args .t2 .at) p 0
 
   below : p < roomOf kind.Place
-  below = omega (arith, i .loop-test .taken, t .pre .0 .room kind.Place)
+  below = omega (arith, i .if1 .taken, t .pre .0 .room kind.Place)
 
   read-is : read ≡ q
   read-is = first-at (x .places) (t .pre .1) p below
@@ -75,7 +75,7 @@ module _ (i : tie.In-loop Inv-loop μ-loop) where
   drift-has =
       has _
       (values-at (length (x .places)) (λ j n. drift x j (firstOf (x .places) n)) (t .pre .3) p (record { at = [] })
-      (omega (arith, i .loop-test .taken, counted (t .args .t1) (t .pre .0) kind.Place)))
+      (omega (arith, i .if1 .taken, counted (t .args .c) (t .pre .0) kind.Place)))
 
 filled : (c : tie.After-more Inv-loop μ-loop) →
     let i = c .before .before .before in
@@ -90,7 +90,7 @@ module _ (c : tie.After-stretch Inv-loop μ-loop) where
   abbrev a : tie.After-more Inv-loop μ-loop
   a = c .before .before .before
 
-  abbrev n : tie.In-loop Inv-loop μ-loop
+  abbrev n : tie.Then1 Inv-loop μ-loop
   n = a .before .before .before
 
   ends : read n + c .stretch .result ≡ q n + stretch (loopOf (x n .places) (p n))
@@ -100,7 +100,7 @@ module _ (c : tie.After-stretch Inv-loop μ-loop) where
   next = go-on (l n .loop .inv .2) (filled a) (below n)
 
 module _ (c : tie.After-repeats Inv-loop μ-loop) where
-  abbrev e : tie.In-loop Inv-loop μ-loop
+  abbrev e : tie.Then1 Inv-loop μ-loop
   e = n (c .before .before)
 
   -- how often the stretch is gone through again
@@ -155,8 +155,8 @@ cast-q c = record { fits = omega (arith, read-below (c .before .before .before .
 mul-place : tie.Need-mul-place Inv-loop μ-loop
 mul-place c = record { fits = omega (arith, read-below (c .before .before .before .before)) }
 
-element-copy-out-place : tie.Need-element-copy-out-place Inv-loop μ-loop
-element-copy-out-place c = read-below (c .before .before .before .before)
+array-copy-out-place : tie.Need-array-copy-out-place Inv-loop μ-loop
+array-copy-out-place c = read-below (c .before .before .before .before)
 
 add-p : tie.Need-add-p Inv-loop μ-loop
 add-p c = record { fits = omega (arith, below (c .before .before .before .before .before)) }
@@ -164,8 +164,8 @@ add-p c = record { fits = omega (arith, below (c .before .before .before .before
 stretch-requires : tie.Need-stretch-requires Inv-loop μ-loop
 stretch-requires c κs = search needs
 
-add-if1 : tie.Need-add-if1 Inv-loop μ-loop
-add-if1 c =
+add-if2 : tie.Need-add-if2 Inv-loop μ-loop
+add-if2 c =
     let i = n c in
     record { fits = omega (arith, end-in (t i .pre .0) (p i) (below i) (read-is i) (c .stretch .ensures)) }
 
@@ -207,10 +207,10 @@ loop-again-2 c =
 
 returns : tie.Need-returns Inv-loop μ-loop
 returns c =
-    let m = c .before in
-    let s = m .before .before .before in
-    let e : m .loop .p ≡ s .args .t1 .count .places = omega arith in
-    finish (m .loop .inv .2) (e ∙ sym (counted (s .args .t1) (s .pre .0) kind.Place))
+    let m = c .before .before in
+    let s = m .before .before .before .before in
+    let e : m .loop .p ≡ s .args .c .count .places = omega arith in
+    finish (m .loop .inv .2) (e ∙ sym (counted (s .args .c) (s .pre .0) kind.Place))
 
 pub bases-spec : {M : Type 1} → statement M
 bases-spec =
@@ -231,10 +231,10 @@ bases-spec =
     element-copy-out-q
     cast-q
     mul-place
-    element-copy-out-place
+    array-copy-out-place
     add-p
     stretch-requires
-    add-if1
+    add-if2
     repeats-requires
     cast-more
     more-requires-2

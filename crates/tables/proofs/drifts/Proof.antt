@@ -28,21 +28,21 @@ use Rattle.tables.proofs.drifts.Statement.{statement}
 use Rattle.tables.proofs.drifts.Tie as tie
 
 abbrev Inv-loop : tie.InvT-loop
-Inv-loop c f w n at₀ p₀ at p = (p ≤ c .count .places) × Begun (λ j q. drift (itemsOf c) j (firstOf (itemsOf c .places) q)) at p
+Inv-loop c f w moves places at₀ p₀ at p = (p ≤ c .count .places) × Begun (λ j q. drift (itemsOf c) j (firstOf (itemsOf c .places) q)) at p
 
 abbrev μ-loop : tie.MeasureT-loop
-μ-loop c f w n at₀ p₀ at p = n - p
+μ-loop c f w moves places at₀ p₀ at p = c .count .places - p
 
-module _ (i : tie.In-loop Inv-loop μ-loop) where
+module _ (i : tie.Then1 Inv-loop μ-loop) where
   abbrev t : tie.Start Inv-loop μ-loop
-  t = i .before .before .before
+  t = i .before .before .before .before .before .before
 
   -- the items, and the place that is filled
   abbrev x : Items
-  x = itemsOf (t .args .t1)
+  x = itemsOf (t .args .c)
 
   abbrev p : ℕ
-  p = i .before .loop .p
+  p = i .before .before .loop .p
 
   -- the first place of its stretch, and as it is read
   abbrev q : ℕ
@@ -52,7 +52,7 @@ module _ (i : tie.In-loop Inv-loop μ-loop) where
   read = getD (t .args .t2 .at) p 0
 
   below : p < roomOf kind.Place
-  below = omega (arith, i .loop-test .taken, t .pre .0 .room kind.Place)
+  below = omega (arith, i .if1 .taken, t .pre .0 .room kind.Place)
 
   read-is : read ≡ q
   read-is = first-at (x .places) (t .pre .1) p below
@@ -61,7 +61,7 @@ module _ (i : tie.In-loop Inv-loop μ-loop) where
   read-below = first-below (t .pre .0) p below read-is
 
 module _ (c : tie.After-stretch Inv-loop μ-loop) where
-  abbrev i : tie.In-loop Inv-loop μ-loop
+  abbrev i : tie.Then1 Inv-loop μ-loop
   i = c .before .before .before
 
   -- the place after the stretch, as it is worked out
@@ -102,9 +102,9 @@ module _ (c : tie.After-back-slot Inv-loop μ-loop) where
   within-is : c .before .more .result ≡ vecOf within
   within-is = sums-are (negsuc 0) refl (last-has b) (first-has b) {s = within} (c .before .more .ensures) (λ j. rw once-less)
 
-filled : (c : tie.Joined1 Inv-loop μ-loop) →
+filled : (c : tie.Joined2 Inv-loop μ-loop) →
     let j = i (b (c .before)) in
-    c .if1 .d ≡ vecOf (λ n. drift (x j) n (q j))
+    c .if2 .d ≡ vecOf (λ n. drift (x j) n (q j))
 unfolding drift
 filled c =
     let a = c .before in
@@ -112,7 +112,7 @@ filled c =
     ⊎-elim
     (λ w. w .5 ∙ more (t k .pre .0) (back a) (slot-is a) (within a) (within-is a) _ (w .0 .taken) (w .3 .ensures) (w .4 .ensures))
     (λ w. w .1 ∙ no-more (t k .pre .0) (back a) (slot-is a) (within a) (within-is a) (w .0 .left))
-    (c .if1 .came)
+    (c .if2 .came)
 
 zero-requires : tie.Need-zero-requires Inv-loop μ-loop
 zero-requires c κs = search needs
@@ -124,13 +124,13 @@ element-copy-out-q : tie.Need-element-copy-out-q Inv-loop μ-loop
 element-copy-out-q c = below c
 
 cast-q : tie.Need-cast-q Inv-loop μ-loop
-cast-q c = search needs
+cast-q c = record { fits = omega (arith, read-below (c .before)) }
 
 mul-place : tie.Need-mul-place Inv-loop μ-loop
 mul-place c = record { fits = omega (arith, read-below (c .before)) }
 
-element-copy-out-place : tie.Need-element-copy-out-place Inv-loop μ-loop
-element-copy-out-place c = read-below (c .before)
+array-copy-out-place : tie.Need-array-copy-out-place Inv-loop μ-loop
+array-copy-out-place c = read-below (c .before)
 
 stretch-requires : tie.Need-stretch-requires Inv-loop μ-loop
 stretch-requires c κs = search needs
@@ -166,8 +166,8 @@ back-slot-requires c κs = search needs
 mul-m : tie.Need-mul-m Inv-loop μ-loop
 mul-m c = search needs
 
-element-copy-out-m : tie.Need-element-copy-out-m Inv-loop μ-loop
-element-copy-out-m c = search needs
+array-copy-out-m : tie.Need-array-copy-out-m Inv-loop μ-loop
+array-copy-out-m c = search needs
 
 widened-requires : tie.Need-widened-requires Inv-loop μ-loop
 widened-requires c κs = search needs
@@ -176,7 +176,7 @@ more-requires-2 : tie.Need-more-requires-2 Inv-loop μ-loop
 more-requires-2 c κs =
     let a = c .before .before .before .before in
     let k = i (b a) in
-    more-small (t k .pre .0) (back a) (slot-is a) (within a) (within-is a) _ (c .before .before .before .if1 .taken) (c .widened .ensures)
+    more-small (t k .pre .0) (back a) (slot-is a) (within a) (within-is a) _ (c .before .before .before .if2 .taken) (c .widened .ensures)
     (λ j. omega (arith, stretch-size (facts _ (t k .pre .0)) j (q k) (omega (arith, read-below k, read-is k))))
 
 mul-at : tie.Need-mul-at Inv-loop μ-loop
@@ -194,14 +194,14 @@ loop-less c = search needs
 loop-again : tie.Need-loop-again Inv-loop μ-loop
 loop-again c =
     let k = i (b (c .before)) in
-    (omega arith, go-on (k .before .loop .inv .1) (filled c) (below k))
+    (omega arith, go-on (k .before .before .loop .inv .1) (filled c) (below k))
 
 returns : tie.Need-returns Inv-loop μ-loop
 returns c =
-    let l = c .before in
-    let s = l .before .before in
-    let e : l .loop .p ≡ s .args .t1 .count .places = omega arith in
-    finish (l .loop .inv .1) (e ∙ sym (counted (s .args .t1) (s .pre .0) kind.Place))
+    let l = c .before .before in
+    let s = l .before .before .before .before in
+    let e : l .loop .p ≡ s .args .c .count .places = omega arith in
+    finish (l .loop .inv .1) (e ∙ sym (counted (s .args .c) (s .pre .0) kind.Place))
 
 pub drifts-spec : {M : Type 1} → statement M
 drifts-spec =
@@ -214,7 +214,7 @@ drifts-spec =
     element-copy-out-q
     cast-q
     mul-place
-    element-copy-out-place
+    array-copy-out-place
     stretch-requires
     add-e
     sub-e
@@ -225,7 +225,7 @@ drifts-spec =
     more-requires
     back-slot-requires
     mul-m
-    element-copy-out-m
+    array-copy-out-m
     widened-requires
     more-requires-2
     mul-at
