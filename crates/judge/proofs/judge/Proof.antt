@@ -139,7 +139,7 @@ enum-told-3 c = search needs
 sub-root : tie.Need-sub-root
 sub-root c =
     let w = u (g (c .before .before .before)) in
-    let d = w .before .before .before .before in
+    let d = w .before .before .before .before .before in
     some-sentence (t w .pre) (d .before .finished .ensures) (not-false _ (d .if1 .left))
 
 cast-root : tie.Need-cast-root
