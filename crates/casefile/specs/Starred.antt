@@ -19,9 +19,10 @@ use Rattle.counters.specs.Sum.{sum}
 use Rattle.items.specs.Items.{perCounter, stateOf, guardOf, moveOf, formOf, sentenceOf, markOf, placeOf}
 use Rattle.checks.specs.Faults.{lowestFault}
 use Rattle.checks.specs.Input.{rangeAnswer, extraAnswer, missingAnswer, formAnswer, fieldsAnswer, endedHead, headOf}
-use Rattle.collector.specs.Cases.{emptyCase, loopsFrom}
-use Rattle.collector.specs.Taking.{wayAnswer, markAnswer, placeAnswer, thereAnswer, roomAnswer, orderAnswer, takenAs, takenOf, collectedFrom, collectedOf}
-use Rattle.collector.specs.Taking as taking
+use Rattle.standing.specs.Standing.{loopsFrom, wayAnswer, markAnswer, placeAnswer, thereAnswer, roomAnswer, orderAnswer}
+use Rattle.standing.specs.Standing as standing
+use Rattle.collector.specs.Cases.{emptyCase}
+use Rattle.collector.specs.Taking.{takenAs, takenOf, collectedFrom, collectedOf}
 use Rattle.meaning.specs.Run.{moveAt}
 use Rattle.meaning.specs.Truth.{bit}
 use Rattle.meaning.specs.Judged.{startOf}
@@ -102,5 +103,5 @@ starred =
     ∷ []
 
 pub starred-lines : answered starred ≡ expected starred
-unfolding starred rootGone withRecord twelveRounds bytesOf lowest contentOf negative alone leading digits lastDigits numeral fieldAt recordOf sumOver kindIn lastBelow shapeOf ruleAt lowestFault rangeAnswer extraAnswer missingAnswer formAnswer fieldsAnswer endedHead headOf perCounter stateOf guardOf moveOf formOf sentenceOf markOf placeOf emptyCase wayAnswer markAnswer placeAnswer thereAnswer roomAnswer orderAnswer taking.recordAnswer takenAs takenOf cutFrom cut collectedFrom collectedOf loopsFrom moveAt sum bit weightOf from gather startOf firstOf through ways drift base greater step chain wholeSum power limit front formThrough firstNot verdict lineOf answerOf
+unfolding starred rootGone withRecord twelveRounds bytesOf lowest contentOf negative alone leading digits lastDigits numeral fieldAt recordOf sumOver kindIn lastBelow shapeOf ruleAt lowestFault rangeAnswer extraAnswer missingAnswer formAnswer fieldsAnswer endedHead headOf perCounter stateOf guardOf moveOf formOf sentenceOf markOf placeOf emptyCase wayAnswer markAnswer placeAnswer thereAnswer roomAnswer orderAnswer standing.recordAnswer takenAs takenOf cutFrom cut collectedFrom collectedOf loopsFrom moveAt sum bit weightOf from gather startOf firstOf through ways drift base greater step chain wholeSum power limit front formThrough firstNot verdict lineOf answerOf
 starred-lines = refl

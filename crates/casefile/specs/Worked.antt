@@ -25,9 +25,10 @@ use Rattle.answers.specs.Answers.{numbers, numbersOf, refusal}
 use Rattle.checks.specs.Faults.{lowestFault}
 use Rattle.checks.specs.Input.{rangeAnswer, extraAnswer, missingAnswer, formAnswer, fieldsAnswer, endedHead, headOf}
 use Rattle.rules.specs.Files.{rowsOf, spelled, AllTaken, Refused}
-use Rattle.collector.specs.Cases.{emptyCase, loopsFrom}
-use Rattle.collector.specs.Taking.{wayAnswer, markAnswer, placeAnswer, thereAnswer, roomAnswer, orderAnswer, takenAs, takenOf, collectedFrom, collectedOf}
-use Rattle.collector.specs.Taking as taking
+use Rattle.standing.specs.Standing.{loopsFrom, wayAnswer, markAnswer, placeAnswer, thereAnswer, roomAnswer, orderAnswer}
+use Rattle.standing.specs.Standing as standing
+use Rattle.collector.specs.Cases.{emptyCase}
+use Rattle.collector.specs.Taking.{takenAs, takenOf, collectedFrom, collectedOf}
 use Rattle.meaning.specs.Run.{Spot, Way, next, spot, wayTaken, moveAt, countersAt}
 use Rattle.meaning.specs.Truth.{bit}
 use Rattle.meaning.specs.Judged.{Judged, startOf}
@@ -194,7 +195,7 @@ worked =
     ∷ []
 
 worked-answers : map (λ (r : Worked). answerOf (bytesOf (r .0))) worked ≡ map (λ (r : Worked). r .1) worked
-unfolding worked fourRounds rising looped both withRecord twelveRounds bytesOf lowest contentOf negative alone leading digits fieldAt recordOf sumOver kindIn lastBelow shapeOf ruleAt lowestFault rangeAnswer extraAnswer missingAnswer formAnswer fieldsAnswer endedHead headOf perCounter stateOf guardOf moveOf formOf sentenceOf markOf placeOf emptyCase wayAnswer markAnswer placeAnswer thereAnswer roomAnswer orderAnswer taking.recordAnswer takenAs takenOf cutFrom cut collectedFrom collectedOf loopsFrom moveAt sum bit weightOf from gather startOf firstOf through ways drift base greater step chain wholeSum power limit front formThrough firstNot verdict answerOf
+unfolding worked fourRounds rising looped both withRecord twelveRounds bytesOf lowest contentOf negative alone leading digits fieldAt recordOf sumOver kindIn lastBelow shapeOf ruleAt lowestFault rangeAnswer extraAnswer missingAnswer formAnswer fieldsAnswer endedHead headOf perCounter stateOf guardOf moveOf formOf sentenceOf markOf placeOf emptyCase wayAnswer markAnswer placeAnswer thereAnswer roomAnswer orderAnswer standing.recordAnswer takenAs takenOf cutFrom cut collectedFrom collectedOf loopsFrom moveAt sum bit weightOf from gather startOf firstOf through ways drift base greater step chain wholeSum power limit front formThrough firstNot verdict answerOf
 worked-answers = refl
 
 -- the meaning says of each file what the table gives

@@ -4,7 +4,7 @@ use mathlib.Core.Bool.{Bool, true, false, cond}
 use mathlib.Core.List.{List, [], _∷_}
 use Prim.Native.Nat.{ℕ, zero, suc, _+_, _-_, _<_, _≤_, min}
 use native.Mathlib.Omega.{arith}
-use lib.Dec.{eqb, leb, ltb}
+use lib.Dec.{eqb, leb}
 use lib.ListN.{length, take, drop, getD, length-drop, drop-of-length-le}
 use lib.Seq.{take-all, take-length, drop-length, drop-drop}
 use borrow.Author.Tests.{eqb-true, ne-eqb, leb-true, leb-false}
@@ -12,26 +12,22 @@ use Rattle.laws.specs.Lowest.{lowest}
 use Rattle.record.specs.declared.Record.{Record}
 use Rattle.record.specs.Layout.{recordLength, recordOf, lineFeed, cutFrom, cut}
 use Rattle.kinds.specs.declared.Kind.{Kind}
-use Rattle.kinds.specs.declared.Counts.{Counts}
 use Rattle.kinds.specs.declared.Letter.{Letter}
 use Rattle.kinds.specs.declared.Letter.the-variants.{Names, Unknown}
-use Rattle.kinds.specs.Kinds.{kindOf, rankOf, countOf}
-use Rattle.kinds.specs.Last.{lastRank}
-use Rattle.table.specs.Table.{shapeOf}
+use Rattle.kinds.specs.Kinds.{kindOf}
 use Rattle.checks.specs.declared.Head.{Head}
 use Rattle.checks.specs.declared.Head.the-variants.{Of, Refused}
 use Rattle.answers.specs.declared.Answer.{Answer}
-use Rattle.answers.specs.declared.Answer.the-variants.{Taken, NotARecord, NoLineFeed, OutOfOrder, NoRoom}
+use Rattle.answers.specs.declared.Answer.the-variants.{Taken, NotARecord, NoLineFeed}
 use Rattle.answers.specs.Answers.{numberOf, fieldOf, testOrder, turnOf, isTaken}
-use Rattle.answers.specs.Laws.{in-order, taken-is, passed, both-take}
-use Rattle.checks.specs.Input.{fieldsAnswer, namedHead, endedHead, headOf}
-use Rattle.collector.specs.declared.Loops.{Loops}
+use Rattle.answers.specs.Laws.{in-order, taken-is}
+use Rattle.checks.specs.Input.{namedHead, endedHead, headOf}
+use Rattle.standing.specs.Standing.{recordAnswer}
 use Rattle.collector.specs.declared.Case.{Case}
 use Rattle.collector.specs.declared.Result.{Result}
 use Rattle.collector.specs.declared.Collected.{Collected}
-use Rattle.items.specs.Lists.{roomOf}
 use Rattle.collector.specs.Cases.{with}
-use Rattle.collector.specs.Taking.{thereAnswer, roomAnswer, orderAnswer, recordAnswer, takenAs, takenBy, takenOf, collectedFrom, collectedOf}
+use Rattle.collector.specs.Taking.{takenAs, takenBy, takenOf, collectedFrom, collectedOf}
 
 -- ---- the records of a file: none at its end, and else the next one and the rest
 
@@ -126,16 +122,6 @@ collected-refused c m bs rs a e =
     let y : Result = record { case = c; answer = a } in
     ap (λ h. after m rs (takenBy c h bs) (isTaken (takenBy c h bs .answer))) e
     ∙ ap (after m rs y) (fair bs (Refused a) e)
-
--- ---- a record that is taken finds room
-
-pub has-room : (n : Counts) (l : Loops) (k : Kind) (r : Record) → isTaken (recordAnswer n l k r) ≡ true → countOf n k < roomOf k
-unfolding recordAnswer orderAnswer roomAnswer shapeOf
-has-room n l k r h =
-    let s = shapeOf k r in
-    let o = both-take (fieldsAnswer s r) (orderAnswer n l s r) h .1 in
-    let p = passed (ltb (rankOf k) (lastRank n)) OutOfOrder (roomAnswer n l s r) refl o .1 in
-    leb-false (roomOf k) (countOf n k) (passed (leb (roomOf k) (countOf n k)) NoRoom (thereAnswer n l s r) refl p .0)
 
 -- ---- a file of one record gives what taking it gives
 

@@ -1,36 +1,18 @@
 -- A case: the one that holds given items, the empty one, and one with one item more; and what is kept beside the items.
 use mathlib.Core.List.{List, [], _∷_, _++_}
-use mathlib.Core.Bool.{true, false, cond}
-use Prim.Native.Nat.{ℕ, _+_, _-_}
+use mathlib.Core.Bool.{cond}
+use Prim.Native.Nat.{_+_, _-_}
 use lib.ListN.{length, take, set, replicate}
 use Rattle.record.specs.declared.Field.{Field}
 use Rattle.kinds.specs.declared.Kind.{Kind}
 use Rattle.kinds.specs.declared.Kind.the-variants as kind
 use Rattle.kinds.specs.declared.Counts.{Counts}
 use Rattle.kinds.specs.Kinds.{countOf, countsBy, same}
-use Rattle.items.specs.declared.LoopMark.{LoopMark}
-use Rattle.items.specs.declared.LoopMark.the-variants as mark
-use Rattle.items.specs.declared.Place.{Place}
 use Rattle.items.specs.Items.{Item, itemOf, placeOf}
 use Rattle.items.specs.Lists.{itemsBy, Items, roomOf, noItem, listOf, countsOf}
-use Rattle.collector.specs.declared.Loops.{Loops}
+use Rattle.standing.specs.Standing.{noLoops, loopsAfter, loopsFrom}
 use Rattle.collector.specs.declared.Derived.{Derived}
 use Rattle.collector.specs.declared.Case.{Case}
-
--- no loop yet
-abbrev pub noLoops : Loops
-noLoops = record { end = record { 0 = 0 }; endless = false }
-
--- the loops after place n, with this mark: the last one ends before place n + length
-abbrev pub loopsAfter : Loops → ℕ → LoopMark → Loops
-loopsAfter l n mark.None = l
-loopsAfter l n (mark.Counted len r b) = record { end = record { 0 = n + len }; endless = false }
-loopsAfter l n (mark.Endless len b) = record { end = record { 0 = n + len }; endless = true }
-
--- the loops of a row of places, the first of which is place n, after those of l
-unfoldable pub loopsFrom : Loops → ℕ → List Place → Loops
-loopsFrom l n [] = l
-loopsFrom l n (p ∷ ps) = loopsFrom (loopsAfter l n (p .mark)) (n + 1) ps
 
 -- ---- items
 

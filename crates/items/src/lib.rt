@@ -80,6 +80,21 @@ pub struct Place {
 // The number of a place, counted from 0.
 pub struct PlaceNo(pub usize);
 
+// How many items of each kind a case has room for: constants alone.
+pub struct Room {}
+
+impl Room {
+    pub const STATES: usize = 32;
+
+    pub const GUARDS: usize = 32;
+
+    pub const MOVES: usize = 64;
+
+    pub const SENTENCES: usize = 20;
+
+    pub const PLACES: usize = 64;
+}
+
 // The number of a field, cut to 8 bits.
 fn byte_of(content: Content) -> u8
     ensures { λ r. ⌜ r ≡ byteOf content ⌝ }

@@ -13,10 +13,10 @@ use Rattle.items.specs.Lists.{Items, noItem}
 use Rattle.answers.specs.declared.Judgement.{Judgement}
 use Rattle.answers.specs.declared.Judgement.the-variants.{Accepted, Unfinished, WrongStart, Unconnected, GuardFails, WrongMark, RootUnmarked}
 use Rattle.rules.specs.Files.{itemCount}
+use Rattle.standing.specs.Standing.{isClosed}
 use Rattle.collector.specs.declared.Case.{Case}
 use Rattle.collector.specs.declared.Derived.{Derived}
 use Rattle.collector.specs.Cases.{itemsOf}
-use Rattle.collector.specs.Taking.{isClosed}
 use Rattle.collector.specs.Sound.{Sound}
 use Rattle.rules_laws.specs.Held.{counted, counts-are, derived}
 use Rattle.meaning.specs.Run.{Way}

@@ -2,16 +2,16 @@
 ghost use mathlib.Core.Path.{_≡_};
 ghost use mathlib.Core.Bool.{_&&_};
 ghost use lib.Dec.{ltb};
+ghost use Rattle.standing.specs.Standing.{isClosed};
 ghost use Rattle.collector.specs.Cases.{itemsOf};
-ghost use Rattle.collector.specs.Taking.{isClosed};
 ghost use Rattle.collector.specs.Sound.{Sound};
 ghost use Rattle.meaning.specs.Judged.{startOf};
 ghost use Rattle.verdict.specs.Verdict.{verdict};
 use answers::Judgement;
 use collector::Case;
-use collector::Loops;
 use guards::Search;
 use kinds::Counts;
+use standing::Loops;
 use tables::Tables;
 
 // Whether there is a sentence, and the endless loop has closed.

@@ -25,12 +25,13 @@ use Rattle.checks.specs.declared.Fault.the-variants.{Misspelled, Missing, Extra
 use Rattle.checks.specs.Faults.{beyond, faultAt, lowestFault}
 use Rattle.checks.specs.Input.{headOf, rangeAnswer, extraAnswer, missingAnswer, formAnswer, fieldsAnswer}
 use Rattle.rules.specs.Rules.{IsA}
+use Rattle.standing.specs.declared.Loops.{Loops}
+use Rattle.standing.specs.Standing.{loopsAfter, recordAnswer, orderAnswer, roomAnswer, thereAnswer, placeAnswer, markAnswer, wayAnswer}
 use Rattle.collector.specs.declared.Case.{Case}
-use Rattle.collector.specs.declared.Loops.{Loops}
 use Rattle.collector.specs.declared.Result.{Result}
 use Rattle.collector.specs.declared.Collected.{Collected}
-use Rattle.collector.specs.Cases.{oneMore, loopsAfter, with}
-use Rattle.collector.specs.Taking.{recordAnswer, orderAnswer, roomAnswer, thereAnswer, placeAnswer, markAnswer, wayAnswer, takenAs, takenBy, takenOf, collectedFrom}
+use Rattle.collector.specs.Cases.{oneMore, with}
+use Rattle.collector.specs.Taking.{takenAs, takenBy, takenOf, collectedFrom}
 use Rattle.rules_laws.specs.Letters.{by-head}
 use Rattle.meaning_laws.specs.Around.{rowWith}
 

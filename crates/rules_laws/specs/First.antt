@@ -31,11 +31,12 @@ use Rattle.checks.specs.declared.Fault.the-variants as fault
 use Rattle.checks.specs.Faults.{outside}
 use Rattle.checks.specs.Input.{wrongForm, rangeAnswer, extraAnswer, missingAnswer, formAnswer, fieldsAnswer}
 use Rattle.rules.specs.Rules.{IsA, fieldsOf, contentAt, ruleFor, IsMissing, IsExtra, IsOutside, IsNotThere, HasForm, Lowest, Closed, Open, Applies, IsFirst}
-use Rattle.collector.specs.declared.Loops.{Loops}
+use Rattle.standing.specs.declared.Loops.{Loops}
+use Rattle.standing.specs.Standing.{noLoops, loopsFrom, isClosed, isOpen, isLong, wayAnswer, markAnswer, placeAnswer, layoutAnswer, thereAnswer, roomAnswer, orderAnswer, recordAnswer}
 use Rattle.collector.specs.declared.Derived.{Derived}
 use Rattle.collector.specs.declared.Case.{Case}
-use Rattle.collector.specs.Cases.{itemsOf, noLoops, loopsFrom}
-use Rattle.collector.specs.Taking.{isClosed, isOpen, isLong, wayAnswer, markAnswer, placeAnswer, layoutAnswer, thereAnswer, roomAnswer, orderAnswer, recordAnswer, takenAs, takenBy, takenOf}
+use Rattle.collector.specs.Cases.{itemsOf}
+use Rattle.collector.specs.Taking.{takenAs, takenBy, takenOf}
 use Rattle.collector.specs.Sound.{Sound}
 use Rattle.rules_laws.specs.Tells.{tells-blank, tells-number, tells-bad, tells-missing, tells-extra, tells-outside, tells-there, tells-form, tells-way}
 use Rattle.rules_laws.specs.Held.{counts-are, derived}

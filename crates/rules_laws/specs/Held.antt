@@ -35,10 +35,11 @@ use Rattle.checks.specs.declared.Head.the-variants.{Of, Refused}
 use Rattle.checks.specs.Faults.{faultAt, lowestFault}
 use Rattle.checks.specs.Input.{wrongForm, rangeAnswer, extraAnswer, missingAnswer, formAnswer, fieldsAnswer, headOf}
 use Rattle.rules.specs.Rules.{IsA}
+use Rattle.standing.specs.declared.Loops.{Loops}
+use Rattle.standing.specs.Standing.{noLoops, loopsAfter, loopsFrom, recordAnswer, orderAnswer, roomAnswer, thereAnswer, layoutAnswer, placeAnswer, markAnswer, wayAnswer, isClosed, isOpen, isLong}
 use Rattle.collector.specs.declared.Case.{Case}
-use Rattle.collector.specs.declared.Loops.{Loops}
-use Rattle.collector.specs.Cases.{changed, added, arraysOf, filled, caseBy, caseOf, itemsOf, noLoops, loopsAfter, loopsFrom, derivedOf, derivedAfter, oneMore, with, emptyCase}
-use Rattle.collector.specs.Taking.{takenOf, takenBy, takenAs, recordAnswer, orderAnswer, roomAnswer, thereAnswer, layoutAnswer, placeAnswer, markAnswer, wayAnswer, isClosed, isOpen, isLong}
+use Rattle.collector.specs.Cases.{changed, added, arraysOf, filled, caseBy, caseOf, itemsOf, derivedOf, derivedAfter, oneMore, with, emptyCase}
+use Rattle.collector.specs.Taking.{takenOf, takenBy, takenAs}
 use Rattle.collector.specs.Sound.{Sound, Fit, There}
 use Rattle.rules_laws.specs.Letters.{by-head}
 use Rattle.rules_laws.specs.Loops.{loops-snoc}

@@ -34,11 +34,12 @@ use Rattle.items.specs.Items.{Item, itemOf, placeOf, rowOf, reference}
 use Rattle.items.specs.Lists.{Items, roomOf, noItem, listOf}
 use Rattle.answers.specs.Answers.{isTaken}
 use Rattle.checks.specs.Faults.{outside}
-use Rattle.collector.specs.declared.Loops.{Loops}
+use Rattle.standing.specs.declared.Loops.{Loops}
+use Rattle.standing.specs.Standing.{noLoops, loopsFrom, isClosed, isOpen, isLong}
 use Rattle.collector.specs.declared.Derived.{Derived}
 use Rattle.collector.specs.declared.Case.{Case}
-use Rattle.collector.specs.Cases.{itemsOf, oneMore, with, noLoops, loopsFrom, emptyCase}
-use Rattle.collector.specs.Taking.{isClosed, isOpen, isLong, takenOf}
+use Rattle.collector.specs.Cases.{itemsOf, oneMore, with, emptyCase}
+use Rattle.collector.specs.Taking.{takenOf}
 use Rattle.collector.specs.Sound.{Sound, Fit, There, reach, shape, LoopsApart}
 use Rattle.rules_laws.specs.Fields.{met, fields-again}
 use Rattle.rules_laws.specs.Held.{count-more, count-other, counted, kept-counted, derived, items-with, same-kind, other-list, kept-with, empty-kept, empty-list, refused-same, Placed, IsTaken, taken-with}

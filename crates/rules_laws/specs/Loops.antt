@@ -17,9 +17,8 @@ use Rattle.items.specs.declared.LoopMark.the-variants as mark
 use Rattle.items.specs.declared.Place.{Place}
 use Rattle.items.specs.Lists.{Items, roomOf, noItem}
 use Rattle.rules.specs.Rules.{markAt, lengthOf, isEndless, endAt, Closed, Open}
-use Rattle.collector.specs.declared.Loops.{Loops}
-use Rattle.collector.specs.Cases.{noLoops, loopsAfter, loopsFrom}
-use Rattle.collector.specs.Taking.{isClosed, isOpen}
+use Rattle.standing.specs.declared.Loops.{Loops}
+use Rattle.standing.specs.Standing.{noLoops, loopsAfter, loopsFrom, isClosed, isOpen}
 use Rattle.collector.specs.Sound.{LoopsApart}
 
 pub loops-snoc : (l : Loops) (n : ℕ) (ps : List Place) (p : Place) →

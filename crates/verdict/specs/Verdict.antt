@@ -16,8 +16,7 @@ use Rattle.items.specs.Lists.{Items, noItem}
 use Rattle.answers.specs.declared.Judgement.{Judgement}
 use Rattle.answers.specs.declared.Judgement.the-variants.{Accepted, Unfinished, WrongStart, Unconnected, GuardFails, WrongMark, RootUnmarked}
 use Rattle.rules.specs.Files.{itemCount}
-use Rattle.collector.specs.Cases.{noLoops, loopsFrom}
-use Rattle.collector.specs.Taking.{isClosed}
+use Rattle.standing.specs.Standing.{noLoops, loopsFrom, isClosed}
 use Rattle.meaning.specs.Run.{Way, guardAt, moveNo, moveBy}
 use Rattle.meaning.specs.Truth.{bit}
 use Rattle.meaning.specs.Judged.{stateAt, waysOf, placeBefore, Test, testsOf, Mark, marksOf, marked, root}

@@ -20,9 +20,9 @@ use Rattle.items.specs.declared.Ref.{Ref}
 use Rattle.items.specs.declared.Ref.the-variants as ref
 use Rattle.items.specs.Lists.{Items, noItem}
 use Rattle.rules.specs.Rules.{Closed}
+use Rattle.standing.specs.Standing.{noLoops, loopsFrom, isClosed}
 use Rattle.collector.specs.declared.Case.{Case}
-use Rattle.collector.specs.Cases.{itemsOf, noLoops, loopsFrom}
-use Rattle.collector.specs.Taking.{isClosed}
+use Rattle.collector.specs.Cases.{itemsOf}
 use Rattle.collector.specs.Sound.{Sound}
 use Rattle.rules_laws.specs.Loops.{closed-is}
 use Rattle.meaning.specs.Run.{Moment, Way, here, spot, placeAt, backOf, moveNo, moveBy, guardsOf}

@@ -1,6 +1,7 @@
 -- The empty case. Assumes nothing.
 use Rattle.items.specs.Items.{perCounter, moveOf}
-use Rattle.collector.specs.Cases.{loopsFrom, emptyCase}
+use Rattle.standing.specs.Standing.{loopsFrom}
+use Rattle.collector.specs.Cases.{emptyCase}
 use borrow.Author.Needs.{needs}
 use Rattle.collector.proofs.Case.empty.Statement.{statement}
 use Rattle.collector.proofs.Case.empty.Tie as tie

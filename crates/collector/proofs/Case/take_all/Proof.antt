@@ -16,8 +16,9 @@ use Rattle.checks.specs.declared.Head.the-variants.{Of}
 use Rattle.checks.specs.Input.{headOf}
 use Rattle.items.specs.Lists.{roomOf}
 use Rattle.answers.specs.Answers.{isTaken}
+use Rattle.standing.proofs.Room.{has-room}
 use Rattle.collector.specs.Taking.{refusalOf, collectedFrom, collectedOf}
-use Rattle.collector.proofs.Laws.{cut-end, cut-next, part, rest, fair, stored, step, collected-next, collected-refused, has-room}
+use Rattle.collector.proofs.Laws.{cut-end, cut-next, part, rest, fair, stored, step, collected-next, collected-refused}
 use Rattle.collector.proofs.Case.take_all.Statement.{statement}
 use Rattle.collector.proofs.Case.take_all.Tie as tie
 

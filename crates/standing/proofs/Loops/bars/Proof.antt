@@ -5,8 +5,8 @@ use borrow.Author.Tests.{lt-ltb, le-ltb}
 use Rattle.record.specs.Layout.{at}
 use Rattle.kinds.specs.Contents.{isNumber, natural}
 use borrow.Author.Needs.{needs}
-use Rattle.collector.proofs.Loops.bars.Statement.{statement}
-use Rattle.collector.proofs.Loops.bars.Tie as tie
+use Rattle.standing.proofs.Loops.bars.Statement.{statement}
+use Rattle.standing.proofs.Loops.bars.Tie as tie
 
 content-at-requires : tie.Need-content-at-requires
 content-at-requires c κs = search needs

@@ -6,10 +6,10 @@ use Rattle.kinds.specs.Kinds.{rankOf, countOf}
 use Rattle.kinds.specs.Last.{lastRank}
 use Rattle.table.specs.Table.{shapeOf}
 use Rattle.items.specs.Lists.{roomOf}
-use Rattle.collector.specs.Taking.{thereAnswer, roomAnswer, orderAnswer}
+use Rattle.standing.specs.Standing.{thereAnswer, roomAnswer, orderAnswer}
 use borrow.Author.Needs.{needs}
-use Rattle.collector.proofs.state_answer.Statement.{statement}
-use Rattle.collector.proofs.state_answer.Tie as tie
+use Rattle.standing.proofs.state_answer.Statement.{statement}
+use Rattle.standing.proofs.state_answer.Tie as tie
 
 -- the answer past each test
 past1 : (c : tie.Else1) → let a = c .before .before .before .args in let s = shapeOf (a .kind) (a .row) in orderAnswer (a .count) (a .loops) s (a .row) ≡ roomAnswer (a .count) (a .loops) s (a .row)

@@ -4,10 +4,10 @@ use mathlib.Core.Bool.{true, false}
 use Rattle.table.specs.Table.{shapeOf}
 use Rattle.checks.specs.Input.{fieldsAnswer}
 use Rattle.answers.specs.Answers.{isTaken}
-use Rattle.collector.specs.Taking.{recordAnswer}
+use Rattle.standing.specs.Standing.{recordAnswer}
 use borrow.Author.Needs.{needs}
-use Rattle.collector.proofs.ordered_answer.Statement.{statement}
-use Rattle.collector.proofs.ordered_answer.Tie as tie
+use Rattle.standing.proofs.ordered_answer.Statement.{statement}
+use Rattle.standing.proofs.ordered_answer.Tie as tie
 
 shape-of-requires : tie.Need-shape-of-requires
 shape-of-requires c κs = search needs

@@ -1,8 +1,8 @@
 -- Whether 25 is said of a field. Assumes nothing.
 use borrow.Author.Tests.{eq-eqb, ne-eqb}
 use borrow.Author.Needs.{needs}
-use Rattle.collector.proofs.Loops.misplaces.Statement.{statement}
-use Rattle.collector.proofs.Loops.misplaces.Tie as tie
+use Rattle.standing.proofs.Loops.misplaces.Statement.{statement}
+use Rattle.standing.proofs.Loops.misplaces.Tie as tie
 
 closed-requires : tie.Need-closed-requires
 closed-requires c κs = search needs

@@ -4,10 +4,10 @@ use mathlib.Core.Bool.{true}
 use Rattle.table.specs.Table.{shapeOf}
 use Rattle.checks.specs.Faults.{faultless}
 use Rattle.checks.proofs.Faultless.{faultless-taken, faultless-there}
-use Rattle.collector.specs.Taking.{recordAnswer}
+use Rattle.standing.specs.Standing.{recordAnswer}
 use borrow.Author.Needs.{needs}
-use Rattle.collector.proofs.answer_of.Statement.{statement}
-use Rattle.collector.proofs.answer_of.Tie as tie
+use Rattle.standing.proofs.answer_of.Statement.{statement}
+use Rattle.standing.proofs.answer_of.Tie as tie
 
 -- no field has a fault where the test says so
 fitting : (c : tie.Then1) → let a = c .before .before .before .args in faultless (a .count) (shapeOf (a .kind) (a .row)) (a .row) ≡ true

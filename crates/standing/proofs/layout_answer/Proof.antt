@@ -6,8 +6,8 @@ use Rattle.kinds.specs.declared.Kind.the-variants.{Place}
 use Rattle.kinds.specs.Kinds.{countOf}
 use Rattle.kinds.specs.Laws.{same-is}
 use Rattle.items.specs.Lists.{roomOf}
-use Rattle.collector.proofs.layout_answer.Statement.{statement}
-use Rattle.collector.proofs.layout_answer.Tie as tie
+use Rattle.standing.proofs.layout_answer.Statement.{statement}
+use Rattle.standing.proofs.layout_answer.Tie as tie
 
 is-requires : tie.Need-is-requires
 is-requires c κs = search needs

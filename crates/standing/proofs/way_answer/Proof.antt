@@ -4,10 +4,10 @@ use mathlib.Core.Bool.{true, false}
 use borrow.Author.Tests.{eq-eqb, ne-eqb}
 use Rattle.record.specs.Layout.{at}
 use Rattle.kinds.specs.Contents.{isNumber, isBlank}
-use Rattle.collector.specs.Taking.{wayAnswer}
+use Rattle.standing.specs.Standing.{wayAnswer}
 use borrow.Author.Needs.{needs}
-use Rattle.collector.proofs.way_answer.Statement.{statement}
-use Rattle.collector.proofs.way_answer.Tie as tie
+use Rattle.standing.proofs.way_answer.Statement.{statement}
+use Rattle.standing.proofs.way_answer.Tie as tie
 
 content-at-requires : tie.Need-content-at-requires
 content-at-requires c κs = search needs

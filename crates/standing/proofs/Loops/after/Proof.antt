@@ -1,7 +1,7 @@
 -- The loops after one more place. Assumes nothing.
 use borrow.Author.Needs.{needs}
-use Rattle.collector.proofs.Loops.after.Statement.{statement}
-use Rattle.collector.proofs.Loops.after.Tie as tie
+use Rattle.standing.proofs.Loops.after.Statement.{statement}
+use Rattle.standing.proofs.Loops.after.Tie as tie
 
 enum-told : tie.Need-enum-told
 enum-told c = search needs

@@ -1,9 +1,9 @@
 -- The tests of a place after the endless loop and of its loop mark. Assumes nothing.
 use mathlib.Core.Path.{_∙_, sym}
-use Rattle.collector.specs.Taking.{markAnswer, placeAnswer}
+use Rattle.standing.specs.Standing.{markAnswer, placeAnswer}
 use borrow.Author.Needs.{needs}
-use Rattle.collector.proofs.place_answer.Statement.{statement}
-use Rattle.collector.proofs.place_answer.Tie as tie
+use Rattle.standing.proofs.place_answer.Statement.{statement}
+use Rattle.standing.proofs.place_answer.Tie as tie
 
 misplaces-requires : tie.Need-misplaces-requires
 misplaces-requires c κs = search needs

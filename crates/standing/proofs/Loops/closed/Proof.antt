@@ -1,7 +1,7 @@
 -- Whether the endless loop has closed. Assumes nothing.
 use borrow.Author.Needs.{needs}
-use Rattle.collector.proofs.Loops.closed.Statement.{statement}
-use Rattle.collector.proofs.Loops.closed.Tie as tie
+use Rattle.standing.proofs.Loops.closed.Statement.{statement}
+use Rattle.standing.proofs.Loops.closed.Tie as tie
 
 returns : tie.Need-returns
 returns c = simp (c .before .if1 .taken)
