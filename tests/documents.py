@@ -59,7 +59,7 @@ def misplaced():
     for crate in sorted({crate for crate in listed if listed.count(crate) > 1}):
         yield f"README.md: crate {crate} is twice in the map"
     part = {crate: name for name, crates in map_.items() for crate in crates}
-    for crate in edges:
+    for crate in set(edges) & set(part):
         for below in set(edges[crate]) - ALWAYS:
             if part.get(below) not in [part.get(crate)] + MAY[part[crate]]:
                 yield f"crates.txt: {crate} ({part[crate]}) stands on {below} ({part.get(below)})"
