@@ -159,6 +159,40 @@ fn reference(f: Field) -> Option<u8> {
     }
 }
 
+fn byte(f: Field) -> u8 {
+    natural(f) as u8
+}
+
+fn short(f: Field) -> i16 {
+    integer(f) as i16
+}
+
+fn four(x: &[Field]) -> [i16; 4] {
+    [short(x[0]), short(x[1]), short(x[2]), short(x[3])]
+}
+
+fn sentence(form: u32, x: &[Field; FIELDS]) -> Form {
+    let term = |k: usize| if filled(x[k]) { Some((short(x[k]), byte(x[k + 1]))) } else { None };
+    match form {
+        1 => Form::Proposition(byte(x[1])),
+        2 => Form::Guard(byte(x[1])),
+        3 => Form::And(byte(x[1]), byte(x[2])),
+        4 => Form::Not(byte(x[1])),
+        5 => Form::Next(byte(x[1])),
+        6 => Form::Until { held: byte(x[1]), goal: byte(x[2]), bound: integer(x[3]), term1: term(4), term2: term(6) },
+        _ => Form::True,
+    }
+}
+
+fn loop_mark(x: &[Field; FIELDS]) -> LoopMark {
+    let (length, back) = (byte(x[3]), byte(x[5]));
+    match (x[3], x[4]) {
+        (Field::Number(_), Field::Blank) => LoopMark::Endless { length, back },
+        (Field::Number(_), Field::Number(_)) => LoopMark::Counted { length, rounds: natural(x[4]), back },
+        _ => LoopMark::None,
+    }
+}
+
 fn filled(f: Field) -> bool {
     matches!(f, Field::Number(_))
 }
@@ -172,52 +206,33 @@ fn needed_if(needed: bool, sort: Sort) -> Rule {
 }
 
 fn rule(kind: Kind, form: u32, x: &[Field; FIELDS], k: usize) -> Rule {
+    use Kind::*;
     use Rule::{Blank, Needed, Optional};
     let f = |n: usize| filled(x[n - 1]);
-    match kind {
-        Kind::State => {
-            if k == 0 {
-                Needed(Sort::Propositions)
-            } else {
-                Blank
-            }
-        }
-        Kind::Guard => {
-            if k < 4 {
-                Needed(Sort::Coefficient)
-            } else if k == 4 {
-                Needed(Sort::Bound)
-            } else {
-                Blank
-            }
-        }
-        Kind::Move => match k {
-            0 | 1 => Needed(Sort::Reference(Kind::State)),
-            2..=5 => Needed(Sort::Update),
-            6 => needed_if(f(8), Sort::Reference(Kind::Guard)),
-            _ => Optional(Sort::Reference(Kind::Guard)),
-        },
-        Kind::Sentence => match (k, form) {
-            (0, _) => Needed(Sort::Form),
-            (1, 1) => Needed(Sort::Proposition),
-            (1, 2) => Needed(Sort::Reference(Kind::Guard)),
-            (1, 3..=6) | (2, 3) | (2, 6) => Needed(Sort::Reference(Kind::Sentence)),
-            (3, 6) => Needed(Sort::Bound),
-            (4, 6) => needed_if(f(6) || f(7) || f(8), Sort::Coefficient),
-            (5, 6) => needed_if(f(5) || f(7) || f(8), Sort::Reference(Kind::Sentence)),
-            (6, 6) => needed_if(f(8), Sort::Coefficient),
-            (7, 6) => needed_if(f(7), Sort::Reference(Kind::Sentence)),
-            _ => Blank,
-        },
-        Kind::Place => match k {
-            0 => Needed(Sort::Reference(Kind::State)),
-            1 => Optional(Sort::Reference(Kind::Move)),
-            2 => Needed(Sort::Marks),
-            3 => needed_if(f(5) || f(6), Sort::LoopLength),
-            4 => Optional(Sort::Rounds),
-            5 => needed_if(f(4), Sort::Reference(Kind::Move)),
-            _ => Blank,
-        },
+    match (kind, k, form) {
+        (State, 0, _) => Needed(Sort::Propositions),
+        (Guard, 0..=3, _) => Needed(Sort::Coefficient),
+        (Guard, 4, _) => Needed(Sort::Bound),
+        (Move, 0 | 1, _) => Needed(Sort::Reference(State)),
+        (Move, 2..=5, _) => Needed(Sort::Update),
+        (Move, 6, _) => needed_if(f(8), Sort::Reference(Guard)),
+        (Move, ..) => Optional(Sort::Reference(Guard)),
+        (Sentence, 0, _) => Needed(Sort::Form),
+        (Sentence, 1, 1) => Needed(Sort::Proposition),
+        (Sentence, 1, 2) => Needed(Sort::Reference(Guard)),
+        (Sentence, 1, 3..=6) | (Sentence, 2, 3 | 6) => Needed(Sort::Reference(Sentence)),
+        (Sentence, 3, 6) => Needed(Sort::Bound),
+        (Sentence, 4, 6) => needed_if(f(6) || f(7) || f(8), Sort::Coefficient),
+        (Sentence, 5, 6) => needed_if(f(5) || f(7) || f(8), Sort::Reference(Sentence)),
+        (Sentence, 6, 6) => needed_if(f(8), Sort::Coefficient),
+        (Sentence, 7, 6) => needed_if(f(7), Sort::Reference(Sentence)),
+        (Place, 0, _) => Needed(Sort::Reference(State)),
+        (Place, 1, _) => Optional(Sort::Reference(Move)),
+        (Place, 2, _) => Needed(Sort::Marks),
+        (Place, 3, _) => needed_if(f(5) || f(6), Sort::LoopLength),
+        (Place, 4, _) => Optional(Sort::Rounds),
+        (Place, 5, _) => needed_if(f(4), Sort::Reference(Move)),
+        _ => Blank,
     }
 }
 
@@ -324,51 +339,39 @@ impl Case {
     }
 
     fn store(&mut self, kind: Kind, form: u32, x: &[Field; FIELDS]) {
-        let byte = |k: usize| natural(x[k]) as u8;
-        let short = |k: usize| integer(x[k]) as i16;
-        let term = |k: usize| if filled(x[k]) { Some((short(k), byte(k + 1))) } else { None };
         let n = self.count[kind as usize];
         match kind {
             Kind::State => self.states[n] = State { propositions: natural(x[0]) as u16 },
-            Kind::Guard => self.guards[n] = Guard { coefficients: [short(0), short(1), short(2), short(3)], bound: integer(x[4]) },
+            Kind::Guard => self.guards[n] = Guard { coefficients: four(&x[..4]), bound: integer(x[4]) },
             Kind::Move => {
-                self.moves[n] = Move {
-                    from: byte(0),
-                    to: byte(1),
-                    updates: [short(2), short(3), short(4), short(5)],
-                    guard1: reference(x[6]),
-                    guard2: reference(x[7]),
-                }
+                let (guard1, guard2) = (reference(x[6]), reference(x[7]));
+                self.moves[n] = Move { from: byte(x[0]), to: byte(x[1]), updates: four(&x[2..6]), guard1, guard2 }
             }
-            Kind::Sentence => {
-                self.sentences[n] = match form {
-                    1 => Form::Proposition(byte(1)),
-                    2 => Form::Guard(byte(1)),
-                    3 => Form::And(byte(1), byte(2)),
-                    4 => Form::Not(byte(1)),
-                    5 => Form::Next(byte(1)),
-                    6 => Form::Until { held: byte(1), goal: byte(2), bound: integer(x[3]), term1: term(4), term2: term(6) },
-                    _ => Form::True,
-                }
-            }
+            Kind::Sentence => self.sentences[n] = sentence(form, x),
             Kind::Place => {
-                let length = byte(3);
-                let mark = match (x[3], x[4]) {
-                    (Field::Number(_), Field::Blank) => LoopMark::Endless { length, back: byte(5) },
-                    (Field::Number(_), Field::Number(_)) => LoopMark::Counted { length, rounds: natural(x[4]), back: byte(5) },
-                    _ => LoopMark::None,
-                };
+                let mark = loop_mark(x);
                 if !matches!(mark, LoopMark::None) {
-                    self.end = n + length as usize;
+                    self.end = n + natural(x[3]) as usize;
                     self.endless = matches!(mark, LoopMark::Endless { .. });
                 }
-                self.places[n] = Place { state: byte(0), way: reference(x[1]), marks: natural(x[2]), mark };
+                self.places[n] = Place { state: byte(x[0]), way: reference(x[1]), marks: natural(x[2]), mark };
             }
         }
         self.count[kind as usize] = n + 1;
     }
 
-    pub fn take(&mut self, bytes: &[u8]) -> Answer {
+    // Takes the records of a file, up to the first that is refused.
+    pub fn take_all(&mut self, src: &[u8]) -> Answer {
+        for bytes in src.chunks(LENGTH) {
+            let answer = self.take(bytes);
+            if answer != Answer::Taken {
+                return answer;
+            }
+        }
+        Answer::Taken
+    }
+
+    fn take(&mut self, bytes: &[u8]) -> Answer {
         if bytes.len() != LENGTH {
             return Answer::Refused(11, 0);
         }
@@ -397,13 +400,4 @@ impl Case {
         }
         answer
     }
-}
-
-// A record of a kind with these fields, each set to the right.
-pub fn record(kind: char, fields: &[String]) -> String {
-    let mut line = kind.to_string();
-    for k in 0..FIELDS {
-        line += &format!("{:>7}", fields.get(k).map_or("", |f| f.as_str()));
-    }
-    line + "\n"
 }

@@ -1,6 +1,6 @@
 // Plain Rust that judges a case, by the same computation as the proved judge's: one pass forward over the places for the counters, and one
 // backward for each until. Its cost doesn't depend on the number of rounds.
-use crate::plain::{Answer, Case, Form, LoopMark, LENGTH};
+use crate::plain::{Answer, Case, Form, LoopMark};
 
 const COUNTERS: usize = 4;
 const PLACES: usize = 64;
@@ -350,10 +350,8 @@ impl Case {
 // The three numbers of a file.
 pub fn answer(src: &[u8]) -> [usize; 3] {
     let mut case = Case::empty();
-    for (n, bytes) in src.chunks(LENGTH).enumerate() {
-        if let Answer::Refused(result, field) = case.take(bytes) {
-            return [result as usize, n, field as usize];
-        }
+    match case.take_all(src) {
+        Answer::Taken => case.judge(),
+        Answer::Refused(result, field) => [result as usize, case.count.iter().sum(), field as usize],
     }
-    case.judge()
 }

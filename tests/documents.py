@@ -3,11 +3,11 @@
 
 The notes are history and are not looked at. What FORMAT.md says of the rules is tested by format.py.
 """
-import pathlib
 import re
 import sys
 
-ROOT = pathlib.Path(__file__).resolve().parent.parent
+from cases import ROOT
+
 CRATES = ROOT / "crates"
 PATH = re.compile(r"`(?:crates/)?(?:(?P<crate>\w+)/)?(?P<folder>specs|src|proofs)/(?P<file>[\w/]+\.(?:antt|rt))`|`(?P<more>\w+\.antt)`")
 ROW = re.compile(r"[| ]*`(\w+)` \|")

@@ -1,20 +1,19 @@
 #!/usr/bin/env python3
 """examples.py PROGRAM: the examples, each spelled by tools/case, give the lines that their first comments say; and tools/case itself.
 
-PROGRAM reads a case file from standard input and prints its line. tools/case is tested on the records of tests/vectors.tsv, there and
-back, against the spelling of tests/reference.py, and on notation and bytes that it must refuse.
+PROGRAM reads a case file from standard input and prints its line. tools/case is tested on the records of the stored cases, there and back,
+against the spelling of tests/cases.py, and on notation and bytes that it must refuse.
 """
 import os
-import pathlib
 import subprocess
 import sys
 
-from reference import pack
+from cases import LENGTH, ROOT, TWELVE, pack, stored
+from tally import Tally
 
-ROOT = pathlib.Path(__file__).resolve().parent.parent
 TOOL = ROOT / "tools" / "case"
 KINDS = "is none of S, G, T, F, P"
-RECORD = pack(["T", "0", "1", "1250", "0", "0", "0", "1"])
+RECORD = TWELVE[4 * LENGTH:5 * LENGTH]  # its field 3 is 1250
 
 # Notation, and why `spell` refuses it.
 NO_NOTATION = [
@@ -71,20 +70,6 @@ ALSO_NOTATION = [
 ]
 
 
-class Count:
-    """How many tests passed and failed."""
-
-    def __init__(self):
-        self.passed = self.failed = 0
-
-    def equal(self, name, want, got):
-        if want == got:
-            self.passed += 1
-        else:
-            self.failed += 1
-            print(f"examples: {name}: expected {want!r:.400}, got {got!r:.400}")
-
-
 def case(turn, data):
     """What tools/case writes, what it complains of, and its status."""
     done = subprocess.run([sys.executable, TOOL, turn], input=data, capture_output=True)
@@ -100,48 +85,45 @@ def refused(why):
     return b"", f"case: standard input: {why}\n", 1
 
 
-def examples(count, program):
+def examples(tally, program):
     """The examples give their lines, and come back from `show` as they were spelled."""
-    files = sorted((ROOT / "examples").glob("*.case"))
-    for file in files:
-        first = file.read_text().split("\n")[0]
-        spelled, complaint, _ = case("spell", file.read_bytes())
-        count.equal(f"{file.name}: complaint", "", complaint)
+    files = {file.name: case("spell", file.read_bytes()) for file in sorted((ROOT / "examples").glob("*.case"))}
+    for name, (spelled, complaint, _) in files.items():
+        first = (ROOT / "examples" / name).read_text().split("\n")[0]
+        tally.equal(f"{name}: complaint", "", complaint)
         line = subprocess.run([program], input=spelled, stdout=subprocess.PIPE).stdout.decode()
-        count.equal(file.name, first + "\n", "# gives: " + line)
-        count.equal(f"{file.name}: there and back", taken(spelled), case("spell", case("show", spelled)[0]))
+        tally.equal(name, first + "\n", "# gives: " + line)
+        tally.equal(f"{name}: there and back", taken(spelled), case("spell", case("show", spelled)[0]))
+    tally.equal("twelve-rounds.case spells the program's stdin", taken(TWELVE), files["twelve-rounds.case"])
     return len(files)
 
 
-def stored(count):
+def records_there_and_back(tally):
     """The records of the stored cases, those without edits of their bytes."""
-    cases = [line.rstrip("\n").split("\t") for line in open(ROOT / "tests" / "vectors.tsv") if not line.startswith("#")]
-    records = [record for _, _, records, edits in cases if not edits for record in records.split("/") if record]
+    records = [record for stored_case in stored() if not stored_case.edits for record in stored_case.records.split("/") if record]
     lines = "".join(record + "\n" for record in records).encode()
     data = b"".join(pack(record.split(" ")) for record in records)
-    count.equal("stored records, one a line", taken(data), case("spell", lines))
-    count.equal("stored records, with slashes", taken(data), case("spell", " / ".join(records).encode()))
-    count.equal("stored records, shown", taken(lines), case("show", data))
+    tally.equal("there are stored records", True, data != b"")
+    tally.equal("stored records, one a line", taken(data), case("spell", lines))
+    tally.equal("stored records, with slashes", taken(data), case("spell", " / ".join(records).encode()))
+    tally.equal("stored records, shown", taken(lines), case("show", data))
     return len(records)
 
 
 def main():
     if len(sys.argv) != 2:
         sys.exit(__doc__)
-    count = Count()
-    count.equal("tools/case can be run", True, os.access(TOOL, os.X_OK))
-    files = examples(count, os.path.abspath(sys.argv[1]))
-    records = stored(count)
+    tally = Tally("examples")
+    tally.equal("tools/case can be run", True, os.access(TOOL, os.X_OK))
+    files = examples(tally, os.path.abspath(sys.argv[1]))
+    records = records_there_and_back(tally)
     for text, want in ALSO_NOTATION:
-        count.equal(repr(text), taken(b"".join(map(pack, want))), case("spell", text.encode()))
+        tally.equal(repr(text), taken(b"".join(map(pack, want))), case("spell", text.encode()))
     for text, why in NO_NOTATION:
-        count.equal(repr(text), refused(why), case("spell", text.encode()))
+        tally.equal(repr(text), refused(why), case("spell", text.encode()))
     for data, why in NO_CASE:
-        count.equal(repr(data), refused(why), case("show", data))
-    refusals = len(NO_NOTATION) + len(NO_CASE)
-    print(f"examples: {count.passed} passed, {count.failed} failed ({files} examples, {records} records there and back, {refusals} refusals)")
-    if count.failed or not files or not records:
-        sys.exit(1)
+        tally.equal(repr(data), refused(why), case("show", data))
+    tally.finish(f" ({files} examples, {records} records there and back, {len(NO_NOTATION) + len(NO_CASE)} refusals)")
 
 
 if __name__ == "__main__":

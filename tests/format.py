@@ -10,17 +10,17 @@ import collections
 import functools
 import itertools
 import os
-import pathlib
 import re
 import subprocess
 import sys
 
-ROOT = pathlib.Path(__file__).resolve().parent.parent
+from cases import LENGTH, ROOT
+from tally import Tally
+
 DOCUMENT = ROOT / "docs" / "FORMAT.md"
 CRATES = ROOT / "crates"
 ANSWERS = "answers/specs/Answers.antt"
 JUDGED = "meaning/specs/Judged.antt"
-LENGTH = 58
 FIELDS = range(1, 9)
 SPELLED = range(-999999, 10000000)
 
@@ -46,19 +46,12 @@ ROOM = {
 Field = collections.namedtuple("Field", "low high needed beside")
 
 
-class Count:
-    """How many tests passed and failed, and how many there were of each sort of thing."""
+class Count(Tally):
+    """What passed and what failed, and how many there were of each sort of thing."""
 
     def __init__(self):
-        self.passed = self.failed = 0
+        super().__init__("format")
         self.seen = collections.Counter()
-
-    def equal(self, name, want, got):
-        if want == got:
-            self.passed += 1
-        else:
-            self.failed += 1
-            print(f"format: {name}: expected {want!r:.400}, got {got!r:.400}")
 
 
 @functools.cache
@@ -315,9 +308,7 @@ def main():
     for thing, least in LEAST.items():
         count.equal(f"{thing}, at least {least}", True, count.seen[thing] >= least)
     seen = ", ".join(f"{number} {thing}" for thing, number in count.seen.items())
-    print(f"format: {count.passed} passed, {count.failed} failed ({seen})")
-    if count.failed:
-        sys.exit(1)
+    count.finish(f" ({seen})")
 
 
 if __name__ == "__main__":

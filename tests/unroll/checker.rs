@@ -1,5 +1,6 @@
 //! A separate checker of case files, written from document 01 alone: it unrolls the run moment by moment and looks at every moment.
 //! It has no formula for a loop and shares nothing with the proved code. To test the tests, one mistake can be planted in it.
+use crate::library::Answer;
 use crate::mistakes::Mistake::{self, *};
 use crate::reader::*;
 use std::cell::Cell;
@@ -49,30 +50,30 @@ fn holds(guard: &Fields, counters: &[i64; 4]) -> bool {
 fn judge(case: &Case, mistake: Mistake, steps: u64) -> Result<Answer, TooLong> {
     let closed = case.endless().is_some_and(|(first, length)| first + length <= case.0[P].len());
     if case.0[F].is_empty() || !closed {
-        return Ok((24, case.0.iter().map(|items| items.len() as u64).sum(), 0));
+        return Ok([24, case.0.iter().map(Vec::len).sum(), 0]);
     }
     if case.0[P][0][1] != Some(0) {
-        return Ok((31, 0, 0));
+        return Ok([31, 0, 0]);
     }
     if let Some((place, number)) = unconnected(case, mistake) {
-        return Ok((32, place as u64, number as u64));
+        return Ok([32, place, number]);
     }
     let run = Run::new(case, mistake, steps)?;
     if let Some((place, guard)) = run.failing_guard(case)? {
-        return Ok((33, place as u64, guard as u64));
+        return Ok([33, place, guard]);
     }
     let mut truths = Vec::new();
     for (number, sentence) in case.0[F].iter().enumerate() {
         let truth = run.truth(case, sentence, &truths)?;
         let marked = |place: usize| case.number(P, place, 3) >> number & 1 == 1;
         if let Some(place) = run.wrong_place(case, sentence, &truth, marked)? {
-            return Ok((34, place as u64, number as u64));
+            return Ok([34, place, number]);
         }
         truths.push(truth);
     }
     let root = case.0[F].len() - 1;
     let marked = case.number(P, 0, 3) >> root & 1 == 1;
-    Ok(if marked { (0, 0, 0) } else { (35, 0, root as u64) })
+    Ok(if marked { [0, 0, 0] } else { [35, 0, root] })
 }
 
 /// The first place whose way in, or else its back move, leads from or to another state; with that move.

@@ -1,46 +1,27 @@
-//! unroll cases COUNT SEED: random case files, answered by the library and by the separate checker; then the mistakes planted in the checker.
-//! unroll stored: the stored cases from standard input (as tests/stored.py prints them), answered by the separate checker and by the library.
-//! Built with `--cfg library` it calls the library's C functions; without, the checker stands in for it:
-//! rustc --edition 2021 --check-cfg 'cfg(library)' -C opt-level=3 -o target/tests/unroll tests/unroll/main.rs [--cfg library -L DIR -l static=NAME]
+//! unroll cases COUNT SEED: case files, answered by the library and by the separate checker: the twelve rounds with fields spelled badly, then
+//! random ones; and mistakes planted in the checker.
+//! unroll stored: the stored cases, as tests/cases.py prints them, from standard input, answered by both.
 mod checker;
+#[path = "../library.rs"]
+mod library;
 mod mistakes;
 mod random;
 mod reader;
 
 use checker::check;
+use library::RESULTS;
 use mistakes::{Mistake, MISTAKES};
-use random::{random_file, Random};
-use reader::{read, Answer, Case, Fields, F, P, T};
+use random::{misspelled, random_file, Random};
+use reader::{read, Case, Fields, F, P, ROOM, T};
 use std::collections::BTreeMap;
 use std::process::exit;
 
-const RESULTS: [u64; 18] = [0, 11, 12, 13, 14, 15, 16, 21, 22, 23, 24, 25, 26, 31, 32, 33, 34, 35];
+const TWELVE: &[u8] = include_bytes!("../../crates/plancheck/stdin");
 /// Steps of unrolling allowed for a random case, and for a stored one.
 const STEPS: u64 = 500_000;
 const STORED_STEPS: u64 = 100_000_000;
-/// Each mistake is tried on so many cases, and on more only until it is found.
-const TRIED: u64 = 10_000;
-
-#[cfg(library)]
-extern "C" {
-    fn case_result(bytes: *const u8, count: usize) -> u64;
-    fn case_second(bytes: *const u8, count: usize) -> u64;
-    fn case_third(bytes: *const u8, count: usize) -> u64;
-}
-
-/// The library's answer.
-#[cfg(library)]
-fn library(bytes: &[u8], _: Answer) -> Answer {
-    let (from, count) = (bytes.as_ptr(), bytes.len());
-    // SAFETY: the functions read `count` bytes from `from` and keep nothing.
-    unsafe { (case_result(from, count), case_second(from, count), case_third(from, count)) }
-}
-
-/// Without a library, the answer that it is to be compared with.
-#[cfg(not(library))]
-fn library(_: &[u8], expected: Answer) -> Answer {
-    expected
-}
+/// A mistake is tried until so many cases have found it.
+const FOUND: usize = 3;
 
 /// A counted loop of 2 or more rounds whose back move has a guard.
 fn guarded_loop(case: &Case) -> bool {
@@ -61,99 +42,87 @@ fn counting_until(case: &Case) -> bool {
 /// What the random cases have shown.
 struct Seen {
     /// How often each result came.
-    results: BTreeMap<u64, u64>,
+    results: BTreeMap<usize, usize>,
     /// Accepted cases with both the loop and the until.
-    rich: u64,
-    /// By how many cases each mistake is found.
-    found: Vec<u64>,
-    compared: u64,
-    too_long: u64,
+    rich: usize,
+    /// By kind, cases that were taken whole and fill the room.
+    full: [usize; 5],
+    /// By how many cases each mistake is found, up to `FOUND`.
+    found: Vec<usize>,
+    compared: usize,
+    too_long: usize,
 }
 
-fn cases(count: u64, seed: u64) -> bool {
+impl Seen {
+    /// One more case, its answer, and whether each mistake would have been found by it.
+    fn add(&mut self, bytes: &[u8], answer: library::Answer) {
+        *self.results.entry(answer[0]).or_default() += 1;
+        if let Ok(case) = read(bytes, Mistake::Nothing) {
+            self.rich += (answer[0] == 0 && guarded_loop(&case) && counting_until(&case)) as usize;
+            for (times, (items, room)) in self.full.iter_mut().zip(case.0.iter().zip(ROOM)) {
+                *times += (items.len() == room) as usize;
+            }
+        }
+        for (times, (mistake, _)) in self.found.iter_mut().zip(MISTAKES) {
+            if *times < FOUND {
+                *times += check(bytes, *mistake, STEPS).is_ok_and(|wrong| wrong != answer) as usize;
+            }
+        }
+        self.compared += 1;
+    }
+
+    /// Says what is missing for the cases to be a test; whether nothing is.
+    fn enough(&self) -> bool {
+        let accepted = self.results[&0];
+        let seldom = |times: &usize| times * 2000 < self.compared;
+        let results: Vec<_> = self.results.iter().filter(|(_, times)| seldom(times)).collect();
+        let unfound: Vec<_> = MISTAKES.iter().zip(&self.found).filter(|(_, &times)| times < FOUND).map(|((_, words), _)| words).collect();
+        let lacks = [
+            (!results.is_empty(), format!("results seen too seldom, and how often: {results:?}")),
+            (self.full.iter().any(|times| seldom(times)), format!("too few cases that fill the room of a kind: {:?}", self.full)),
+            (accepted * 4 < self.compared, format!("only {accepted} cases are accepted")),
+            (self.rich * 2 < accepted, format!("only {} accepted cases have a guarded loop and a counting until", self.rich)),
+            (self.too_long * 100 > self.compared, format!("{} cases are too long", self.too_long)),
+            (!unfound.is_empty(), format!("planted mistakes found by fewer than {FOUND} cases: {unfound:?}")),
+        ];
+        lacks.iter().filter(|(lacks, _)| *lacks).for_each(|(_, words)| println!("unroll: {words}"));
+        lacks.iter().all(|(lacks, _)| !lacks)
+    }
+}
+
+fn cases(count: usize, seed: u64) -> bool {
     let mut r = Random(seed);
     let results = RESULTS.iter().map(|&result| (result, 0)).collect();
-    let mut seen = Seen { results, rich: 0, found: vec![0; MISTAKES.len()], compared: 0, too_long: 0 };
-    while seen.compared < count {
-        let bytes = random_file(&mut r);
+    let mut seen = Seen { results, rich: 0, full: [0; 5], found: vec![0; MISTAKES.len()], compared: 0, too_long: 0 };
+    for bytes in misspelled(TWELVE).into_iter().chain(std::iter::repeat_with(|| random_file(&mut r))) {
+        if seen.compared == count {
+            break;
+        }
         let Ok(answer) = check(&bytes, Mistake::Nothing, STEPS) else {
             seen.too_long += 1;
             continue;
         };
-        let other = library(&bytes, answer);
-        if answer != other {
+        let library = library::answer(&bytes);
+        if answer != library {
             let text = String::from_utf8_lossy(&bytes);
-            println!("unroll: case {} of seed {seed}: the checker answers {answer:?}, the library {other:?}\n{text}", seen.compared);
+            println!("unroll: case {} of seed {seed}: the checker answers {answer:?}, the library {library:?}\n{text}", seen.compared);
+            println!("unroll: cases: {} passed, 1 failed", seen.compared);
             return false;
         }
-        *seen.results.entry(answer.0).or_default() += 1;
-        if answer.0 == 0 {
-            seen.rich += read(&bytes, Mistake::Nothing).is_ok_and(|case| guarded_loop(&case) && counting_until(&case)) as u64;
-        }
-        for (times, (mistake, _)) in seen.found.iter_mut().zip(MISTAKES) {
-            if seen.compared < TRIED || *times == 0 {
-                *times += check(&bytes, *mistake, STEPS).is_ok_and(|wrong| wrong != answer) as u64;
-            }
-        }
-        seen.compared += 1;
+        seen.add(&bytes, answer);
     }
-    report(&seen)
-}
-
-/// Prints what was seen; whether it is enough.
-fn report(seen: &Seen) -> bool {
-    let (compared, accepted, rich) = (seen.compared, seen.results[&0], seen.rich);
-    println!("unroll: {compared} cases alike; {} more left out as too long", seen.too_long);
-    let results: Vec<String> = seen.results.iter().map(|(result, times)| format!("{result}: {times}")).collect();
-    println!("unroll: how often each result: {}", results.join(", "));
-    println!("unroll: {accepted} accepted; {rich} of them with a counted loop of 2 or more rounds with a guarded back move,");
-    println!("        and an until with a term whose value differs between places");
-    for (times, (_, words)) in seen.found.iter().zip(MISTAKES) {
-        println!("unroll: {times:>5} of the first {} cases find: {words}", compared.min(TRIED));
-    }
-    let found = seen.found.iter().filter(|&&times| times > 0).count();
-    println!("unroll: {found} of {} planted mistakes found", MISTAKES.len());
-    let enough = seen.results.values().all(|&times| times > 0) && accepted * 4 >= compared && rich * 2 >= accepted;
-    if !enough {
-        println!("unroll: a result was never seen, or too few cases were accepted, or too few of those have the loop and the until");
-    }
-    enough && found == MISTAKES.len()
-}
-
-/// The stored cases, line by line: name, expected line, bytes in hex.
-fn stored(lines: impl Iterator<Item = String>) -> bool {
-    let (mut alike, mut too_long, mut wrong) = (0, 0, 0);
-    for line in lines {
-        let columns: Vec<&str> = line.split('\t').collect();
-        let numbers: Vec<u64> = columns[1].split(' ').map(|number| number.parse().expect("a number")).collect();
-        let expected = (numbers[0], numbers[1], numbers[2]);
-        let digits = columns[2].as_bytes().chunks(2).map(|two| std::str::from_utf8(two).expect("hex"));
-        let bytes: Vec<u8> = digits.map(|two| u8::from_str_radix(two, 16).expect("hex")).collect();
-        let own = check(&bytes, Mistake::Nothing, STORED_STEPS).ok();
-        let other = library(&bytes, expected);
-        if own.is_some_and(|own| own != expected) || other != expected {
-            println!("unroll: {}: expected {expected:?}, the checker answers {own:?}, the library {other:?}", columns[0]);
-            wrong += 1;
-        } else if own.is_none() {
-            println!("unroll: {}: too long for the checker", columns[0]);
-            too_long += 1;
-        } else {
-            alike += 1;
-        }
-    }
-    println!("unroll: {alike} stored cases alike, {too_long} too long for the checker, {wrong} wrong");
-    wrong == 0 && alike > 0
+    let found = seen.found.iter().filter(|&&times| times == FOUND).count();
+    println!("unroll: how often each result: {:?}; cases that fill a room: {:?}", seen.results, seen.full);
+    println!("unroll: cases: {count} passed, 0 failed; they find {found} of {} planted mistakes", MISTAKES.len());
+    seen.enough()
 }
 
 fn main() {
     let words: Vec<String> = std::env::args().skip(1).collect();
     let words: Vec<&str> = words.iter().map(String::as_str).collect();
-    if !cfg!(library) {
-        println!("unroll: no library is linked; the checker stands in for it");
-    }
     let right = match words[..] {
         ["cases", count, seed] => cases(count.parse().expect("a count"), seed.parse().expect("a seed")),
-        ["stored"] => stored(std::io::stdin().lines().map(|line| line.expect("a line"))),
+        ["stored"] => library::stored("unroll", |bytes| check(bytes, Mistake::Nothing, STORED_STEPS).ok()),
         _ => panic!("unroll cases COUNT SEED, or unroll stored"),
     };
     if !right {

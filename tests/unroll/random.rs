@@ -1,4 +1,4 @@
-//! Random case files from a seed: plans whose marks are right, with bounds set close to what they bound; and damaged ones.
+//! Random case files from a seed: plans whose marks are right, with bounds set close to what they bound; damaged ones; and any bytes.
 use crate::checker::*;
 use crate::mistakes::Mistake;
 use crate::reader::*;
@@ -56,17 +56,19 @@ fn record(kind: usize, fields: &Fields) -> Vec<u8> {
     bytes
 }
 
-/// The file of a random plan; half of them are damaged.
+/// The file of a random plan, half of them damaged; a few are any bytes.
 pub fn random_file(r: &mut Random) -> Vec<u8> {
+    if r.chance(1) {
+        let count = r.below(300);
+        return (0..count).map(|_| r.below(256) as u8).collect();
+    }
     let (wide, slips) = (r.chance(8), r.chance(15));
     let case = Maker { r, case: Case::default(), wide, slips }.plan();
-    let mut bytes: Vec<u8> = (S..=P).flat_map(|kind| case.0[kind].iter().flat_map(move |item| record(kind, item))).collect();
-    if r.chance(50) {
-        for _ in 0..r.pick(&[1, 1, 1, 2]) {
-            damage(r, &case, &mut bytes);
-        }
-    }
-    bytes
+    let bytes = (S..=P).flat_map(|kind| case.0[kind].iter().flat_map(move |item| record(kind, item))).collect();
+    let times = if r.chance(50) { r.pick(&[1, 1, 1, 2]) } else { 0 };
+    let mut file = Damaged { r, case: &case, bytes };
+    (0..times).for_each(|_| file.damage());
+    file.bytes
 }
 
 /// A plan in the making; `wide` for large numbers, `slips` for guards and sentences that may not be the same in all rounds.
@@ -301,84 +303,169 @@ fn by_place(run: &Run, truth: &[bool], last: bool) -> Vec<bool> {
     marks
 }
 
-const SPELLINGS: [&str; 16] =
-    ["-", "+1", "1,250", "1.5", "007", "-0", "00", "12 3", " 5 ", "1 ", "-999999", "9999999", "1000000", "-00001", "1e3", "\u{b2}"];
-const NUMBERS: [i64; 24] =
-    [-1, 0, 1, 2, 3, 5, 6, 7, 15, 16, 31, 32, 63, 64, 999, 1_000, -1_000, 9_999, 10_000, -10_000, 65_536, 1_048_576, 1_000_001, HIGHEST];
+/// What a field may have in place of a number, with `|` between them: bad spellings, no number, and the first and last numbers that fit or don't.
+const SPELLINGS: &[u8] = b"|-|+1|1,250|1.5|007|-0|00|12 3| 5 |1 |0 |- 1|--1|1-|-00001|1e3|x|\t1|\xb2|-999999|9999999|-1000000|10000000";
+const NUMBERS: [i64; 26] = [
+    -1, 0, 1, 2, 3, 5, 6, 7, 15, 16, 31, 32, 63, 64, 999, 1_000, -1_000, 9_999, 10_000, -10_000, 65_535, 65_536, 1_048_575, 1_048_576, 1_000_001,
+    HIGHEST,
+];
 
-/// Writes a field of a record that is there.
-fn put(bytes: &mut [u8], at: usize, number: usize, text: &str) {
+fn spellings() -> Vec<&'static [u8]> {
+    SPELLINGS.split(|&byte| byte == b'|').collect()
+}
+
+/// Writes a field of a record that is there; a text that is too long pushes all after it on.
+fn put(bytes: &mut Vec<u8>, at: usize, number: usize, text: &[u8]) {
     let from = at * LENGTH + 1 + (number - 1) * WIDTH;
-    let padded = format!("{text:>WIDTH$}");
-    if padded.len() == WIDTH && from + WIDTH < bytes.len() {
-        bytes[from..from + WIDTH].copy_from_slice(padded.as_bytes());
+    if from + WIDTH < bytes.len() {
+        let blanks = vec![b' '; WIDTH.saturating_sub(text.len())];
+        bytes.splice(from..from + WIDTH, [&blanks, text].concat());
     }
 }
 
-/// Spoils one thing; the records are those of the case, but for damage done before.
-fn damage(r: &mut Random, case: &Case, bytes: &mut Vec<u8>) {
-    let start: [usize; 5] = std::array::from_fn(|kind| case.0[..kind].iter().map(Vec::len).sum());
-    let kind = r.pick(&[S, G, T, F, P, P, P]);
-    let records = bytes.len() / LENGTH;
-    if case.0[kind].is_empty() || case.0[F].is_empty() || records == 0 {
-        return;
-    }
-    let item = r.below(case.0[kind].len());
-    let place = r.below(case.0[P].len());
-    let at = (start[kind] + item).min(records - 1);
-    let number = r.between(1, 8) as usize;
-    match r.below(26) {
-        0..=2 => {
-            let flipped = case.0[P][place][3].map(|marks| marks ^ 1 << r.below(case.0[F].len() + 1));
-            put(bytes, start[P] + place, 3, &spelled(flipped));
-        }
-        3..=5 => {
-            let rounds = if r.chance(90) { r.between(1, 8) } else { r.pick(&[0, -1, 40, 1_000_001]) };
-            put_in_some(r, case, bytes, (P, 5), |_, _| rounds);
-        }
-        6..=8 => put_in_some(r, case, bytes, (kind, number), |r, content| content + r.pick(&[-1, 1])),
-        9 => put_in_some(r, case, bytes, (G, 5), |r, bound| bound + r.pick(&[-1, 1, 1, 2])),
-        10 => put_in_some(r, case, bytes, (F, 4), |r, bound| bound + r.pick(&[-1, 1])),
-        11 => put_in_some(r, case, bytes, (P, 2 + 4 * (number % 2)), |r, _| r.below(case.0[T].len()) as i64),
-        12 => put(bytes, at, number, &r.pick(&NUMBERS).to_string()),
-        13 => put(bytes, at, number, ""),
-        14 => put(bytes, at, number, r.pick(&SPELLINGS)),
-        15 => {
-            let byte = r.below(bytes.len());
-            bytes[byte] = if r.chance(70) { r.pick(b" 0-1,9\nSP") } else { r.below(256) as u8 };
-        }
-        16 => bytes[at * LENGTH + r.pick(&[0, LENGTH - 1])] = r.pick(b"SGTFPsW \r"),
-        17 => bytes.truncate(r.below(bytes.len())),
-        18 => bytes.truncate(r.below(records) * LENGTH),
-        19 => {
-            let other = r.below(records);
-            (0..LENGTH).for_each(|byte| bytes.swap(at * LENGTH + byte, other * LENGTH + byte));
-        }
-        20 => drop(bytes.drain(at * LENGTH..(at + 1) * LENGTH)),
-        21 => bytes.extend(record(kind, &case.0[kind][item])),
-        22 => {
-            let more = ROOM[kind] - case.0[kind].len().min(ROOM[kind]) + r.below(2);
-            bytes.splice(at * LENGTH..at * LENGTH, record(kind, &case.0[kind][item]).repeat(more));
-        }
-        23 => put(bytes, start[P] + r.pick(&[0, place]), r.pick(&[1, 2]), r.pick(&["0", "1", "2", ""])),
-        _ => {
-            // a loop mark at a place, or at one more place after the end
-            let at = if r.chance(50) { case.0[P].len() } else { place };
-            let length = r.pick(&[1, 2, 3, 63 - at as i64, 64 - at as i64, 65 - at as i64, 64]);
-            let mut fields = case.0[P][place];
-            fields[4..7].copy_from_slice(&[Some(length), r.pick(&[None, Some(2)]), Some(0)]);
-            let from = ((start[P] + at) * LENGTH).min(records * LENGTH);
-            bytes.splice(from..(from + LENGTH).min(bytes.len()), record(P, &fields));
+/// A file with each spelling in each field.
+pub fn misspelled(file: &[u8]) -> Vec<Vec<u8>> {
+    let mut files = Vec::new();
+    for (at, number) in (0..file.len() / LENGTH).flat_map(|at| (1..=8).map(move |number| (at, number))) {
+        for text in spellings() {
+            files.push(file.to_vec());
+            put(files.last_mut().expect("a file"), at, number, text);
         }
     }
+    files
 }
 
-/// Changes a field of a kind in one of the records where it is filled.
-fn put_in_some(r: &mut Random, case: &Case, bytes: &mut [u8], (kind, number): (usize, usize), change: impl Fn(&mut Random, i64) -> i64) {
-    let filled: Vec<usize> = (0..case.0[kind].len()).filter(|&item| case.0[kind][item][number].is_some()).collect();
-    if !filled.is_empty() {
-        let item = r.pick(&filled);
-        let content = case.0[kind][item][number].map(|content| change(r, content));
-        put(bytes, case.0[..kind].iter().map(Vec::len).sum::<usize>() + item, number, &spelled(content));
+/// The file of a case, with damage done to it.
+struct Damaged<'a> {
+    r: &'a mut Random,
+    case: &'a Case,
+    bytes: Vec<u8>,
+}
+
+impl Damaged<'_> {
+    /// Spoils one thing, as if the records were still those of the case.
+    fn damage(&mut self) {
+        if self.bytes.len() < LENGTH || self.case.0[F].is_empty() {
+            return;
+        }
+        match self.r.below(26) {
+            0..=8 => self.damage_plan(),
+            9..=14 => self.damage_number(),
+            15..=19 => self.damage_bytes(),
+            _ => self.damage_records(),
+        }
+    }
+
+    /// How many whole records there are.
+    fn records(&self) -> usize {
+        self.bytes.len() / LENGTH
+    }
+
+    /// The number of the first record of a kind.
+    fn start(&self, kind: usize) -> usize {
+        self.case.0[..kind].iter().map(Vec::len).sum()
+    }
+
+    /// An item of some kind, mostly a place: its kind, its number, and that of its record.
+    fn some_item(&mut self) -> (usize, usize, usize) {
+        let kinds: Vec<usize> = [S, G, T, F, P, P, P].into_iter().filter(|&kind| !self.case.0[kind].is_empty()).collect();
+        let kind = self.r.pick(&kinds);
+        let item = self.r.below(self.case.0[kind].len());
+        (kind, item, (self.start(kind) + item).min(self.records() - 1))
+    }
+
+    /// Changes a field of a kind in one of the records where it is filled.
+    fn put_in_some(&mut self, kind: usize, number: usize, change: impl Fn(&mut Random, i64) -> i64) {
+        let filled: Vec<usize> = (0..self.case.0[kind].len()).filter(|&item| self.case.0[kind][item][number].is_some()).collect();
+        if !filled.is_empty() {
+            let item = self.r.pick(&filled);
+            let content = self.case.0[kind][item][number].map(|content| change(self.r, content));
+            let at = self.start(kind) + item;
+            put(&mut self.bytes, at, number, spelled(content).as_bytes());
+        }
+    }
+
+    /// Marks, rounds, and loop marks at a place or at one more place after the end.
+    fn damage_plan(&mut self) {
+        let places = &self.case.0[P];
+        let place = self.r.below(places.len());
+        let start = self.start(P);
+        match self.r.below(9) {
+            0..=2 => {
+                let flipped = places[place][3].map(|marks| marks ^ 1 << self.r.below(self.case.0[F].len() + 1));
+                put(&mut self.bytes, start + place, 3, spelled(flipped).as_bytes());
+            }
+            3..=5 => {
+                let rounds = if self.r.chance(90) { self.r.between(1, 8) } else { self.r.pick(&[0, -1, 40, 1_000_001]) };
+                self.put_in_some(P, 5, |_, _| rounds);
+            }
+            6 => {
+                let (place, number, text) = (self.r.pick(&[0, place]), self.r.pick(&[1, 2]), self.r.pick(&["0", "1", "2", ""]));
+                put(&mut self.bytes, start + place, number, text.as_bytes());
+            }
+            _ => {
+                let at = if self.r.chance(50) { places.len() } else { place };
+                let length = self.r.pick(&[1, 2, 3, 63 - at as i64, 64 - at as i64, 65 - at as i64, 64]);
+                let mut fields = places[place];
+                fields[4..7].copy_from_slice(&[Some(length), self.r.pick(&[None, Some(2)]), Some(0)]);
+                let from = ((start + at) * LENGTH).min(self.records() * LENGTH);
+                self.bytes.splice(from..(from + LENGTH).min(self.bytes.len()), record(P, &fields));
+            }
+        }
+    }
+
+    /// A number that is a little more or less, or names another move.
+    fn damage_number(&mut self) {
+        let (kind, ..) = self.some_item();
+        let number = self.r.between(1, 8) as usize;
+        let moves = self.case.0[T].len();
+        match self.r.below(6) {
+            0..=2 => self.put_in_some(kind, number, |r, content| content + r.pick(&[-1, 1])),
+            3 => self.put_in_some(G, 5, |r, bound| bound + r.pick(&[-1, 1, 1, 2])),
+            4 => self.put_in_some(F, 4, |r, bound| bound + r.pick(&[-1, 1])),
+            _ => self.put_in_some(P, 2 + 4 * (number % 2), |r, _| r.below(moves) as i64),
+        }
+    }
+
+    /// The bytes of a field or of a record.
+    fn damage_bytes(&mut self) {
+        let (.., at) = self.some_item();
+        let number = self.r.between(1, 8) as usize;
+        let content = self.r.pick(&NUMBERS).to_string();
+        let text = self.r.pick(&spellings());
+        match self.r.below(5) {
+            0 => put(&mut self.bytes, at, number, content.as_bytes()),
+            1 => put(&mut self.bytes, at, number, text),
+            2 => put(&mut self.bytes, at, number, b""),
+            3 => {
+                let byte = self.r.below(self.bytes.len());
+                self.bytes[byte] = if self.r.chance(70) { self.r.pick(b" 0-1,9\nSP") } else { self.r.below(256) as u8 };
+            }
+            _ => self.bytes[at * LENGTH + self.r.pick(&[0, LENGTH - 1])] = self.r.pick(b"SGTFPsgW \r\n"),
+        }
+    }
+
+    /// Whole records, and the end of the file.
+    fn damage_records(&mut self) {
+        let (kind, item, at) = self.some_item();
+        let (here, records) = (at * LENGTH, self.records());
+        let copy = record(kind, &self.case.0[kind][item]);
+        match self.r.below(6) {
+            0 => self.bytes.truncate(self.r.below(self.bytes.len())),
+            1 => self.bytes.truncate(self.r.below(records) * LENGTH),
+            2 => {
+                let other = self.r.below(records) * LENGTH;
+                (0..LENGTH).for_each(|byte| self.bytes.swap(here + byte, other + byte));
+            }
+            3 => drop(self.bytes.drain(here..here + LENGTH)),
+            4 => {
+                let to = if self.r.chance(50) { records } else { self.r.below(records) } * LENGTH;
+                self.bytes.splice(to..to, copy);
+            }
+            _ => {
+                let more = ROOM[kind] - self.case.0[kind].len().min(ROOM[kind]) + self.r.below(2);
+                self.bytes.splice(here..here, copy.repeat(more));
+            }
+        }
     }
 }

@@ -1,8 +1,9 @@
 //! Reading a case file by document 01: the records, and the refusals 11 to 26.
+use crate::library::Answer;
 use crate::mistakes::Mistake::{self, *};
 
-/// The three numbers of the line.
-pub type Answer = (u64, u64, u64);
+/// The result and the field of a refusal.
+type Refusal = (usize, usize);
 /// A record's fields by their numbers 1 to 8; entry 0 is not used.
 pub type Fields = [Option<i64>; 9];
 /// The items of each kind, in the order of the letters.
@@ -21,8 +22,10 @@ pub const P: usize = 4;
 /// The case of a file, or the refusal of its first refused record.
 pub fn read(bytes: &[u8], mistake: Mistake) -> Result<Case, Answer> {
     let mut case = Case::default();
+    let whole = bytes.len() / LENGTH * LENGTH;
+    let bytes = if mistake == ShortLastLeftOut { &bytes[..whole] } else { bytes };
     for (number, record) in bytes.chunks(LENGTH).enumerate() {
-        let refused = |(result, field)| (result, number as u64, field as u64);
+        let refused = |(result, field)| [result, number, field];
         let (kind, fields) = from_input(record, mistake).map_err(refused)?;
         from_state(&case, kind, &fields, mistake).map_err(refused)?;
         case.0[kind].push(fields);
@@ -31,12 +34,14 @@ pub fn read(bytes: &[u8], mistake: Mistake) -> Result<Case, Answer> {
 }
 
 /// A field: blank, or a number that is spelled back as it stands; anything else is none.
-fn field(text: &[u8]) -> Option<Option<i64>> {
+fn field(text: &[u8], mistake: Mistake) -> Option<Option<i64>> {
     if text.iter().all(|&byte| byte == b' ') {
         return Some(None);
     }
-    let number: i64 = std::str::from_utf8(text).ok()?.trim_start_matches(' ').parse().ok()?;
-    (spelled(Some(number)).as_bytes() == text).then_some(Some(number))
+    let text = std::str::from_utf8(text).ok()?;
+    let word = if mistake == SpacesAfter { text.trim_matches(' ') } else { text.trim_start_matches(' ') };
+    let number: i64 = word.parse().ok()?;
+    (number.to_string() == word || mistake == OtherSpellings).then_some(Some(number))
 }
 
 /// The seven characters of a field.
@@ -95,7 +100,7 @@ fn in_range(sort: u8, number: i64, mistake: Mistake) -> bool {
 }
 
 /// 11 to 16, or the kind and the fields.
-fn from_input(record: &[u8], mistake: Mistake) -> Result<(usize, Fields), (u64, usize)> {
+fn from_input(record: &[u8], mistake: Mistake) -> Result<(usize, Fields), Refusal> {
     if record.len() != LENGTH {
         return Err((11, 0));
     }
@@ -105,33 +110,31 @@ fn from_input(record: &[u8], mistake: Mistake) -> Result<(usize, Fields), (u64, 
     let kind = LETTERS.iter().position(|&letter| letter == record[0]).ok_or((13, 0))?;
     let mut fields = [None; 9];
     for (at, text) in record[1..LENGTH - 1].chunks(WIDTH).enumerate() {
-        fields[at + 1] = field(text).ok_or((14, at + 1))?;
+        fields[at + 1] = field(text, mistake).ok_or((14, at + 1))?;
     }
-    if kind == F && fields[1].is_some_and(|form| !in_range(b'f', form, mistake)) {
+    if kind == F && mistake != FormLate && fields[1].is_some_and(|form| !in_range(b'f', form, mistake)) {
         return Err((16, 1));
     }
     let sort = |number: usize| sorts(kind, fields[1])[number - 1];
     let lowest = |wrong: &dyn Fn(usize) -> bool| (1..=8).find(|&number| wrong(number));
-    if let Some(number) = lowest(&|n| fields[n].is_none() && needed(kind, n, &fields)) {
-        return Err((15, number));
-    }
-    if let Some(number) = lowest(&|n| fields[n].is_some() && sort(n) == b'-') {
-        return Err((15, number));
-    }
-    match lowest(&|n| fields[n].is_some_and(|content| !in_range(sort(n), content, mistake))) {
-        Some(number) => Err((16, number)),
-        None => Ok((kind, fields)),
-    }
+    let missing = lowest(&|n| fields[n].is_none() && needed(kind, n, &fields)).map(|number| (15, number));
+    let filled = lowest(&|n| fields[n].is_some() && sort(n) == b'-').map(|number| (15, number));
+    let outside = lowest(&|n| fields[n].is_some_and(|content| !in_range(sort(n), content, mistake))).map(|number| (16, number));
+    first([missing, filled], mistake == FilledFirst)?;
+    outside.map_or(Ok((kind, fields)), Err)
+}
+
+/// The first of two refusals that applies, if one does; the mistake is to try the second before it.
+fn first([one, other]: [Option<Refusal>; 2], swapped: bool) -> Result<(), Refusal> {
+    let refusal = if swapped { other.or(one) } else { one.or(other) };
+    refusal.map_or(Ok(()), Err)
 }
 
 /// 21 to 26, or nothing.
-fn from_state(case: &Case, kind: usize, fields: &Fields, mistake: Mistake) -> Result<(), (u64, usize)> {
-    if case.0[kind + 1..].iter().any(|items| !items.is_empty()) {
-        return Err((21, 0));
-    }
-    if case.0[kind].len() >= ROOM[kind] {
-        return Err((22, 0));
-    }
+fn from_state(case: &Case, kind: usize, fields: &Fields, mistake: Mistake) -> Result<(), Refusal> {
+    let late = case.0[kind + 1..].iter().any(|items| !items.is_empty());
+    let full = case.0[kind].len() >= ROOM[kind] + (mistake == OneMore) as usize;
+    first([late.then_some((21, 0)), full.then_some((22, 0))], mistake == RoomFirst)?;
     for number in 1..=8 {
         let Some(content) = fields[number] else { continue };
         let there = match sorts(kind, fields[1])[number - 1] {
@@ -153,18 +156,12 @@ fn from_state(case: &Case, kind: usize, fields: &Fields, mistake: Mistake) -> Re
 }
 
 /// 25 and 26.
-fn place_stands(case: &Case, fields: &Fields, mistake: Mistake) -> Result<(), (u64, usize)> {
+fn place_stands(case: &Case, fields: &Fields, mistake: Mistake) -> Result<(), Refusal> {
     let here = case.0[P].len();
     let after_end = case.endless().is_some_and(|(first, length)| first + length <= here);
     let inside = |(first, place): (usize, &Fields)| place[4].is_some_and(|length| here < first + length as usize);
     let misplaced = fields[4].is_some_and(|length| here + length as usize > 64 || case.0[P].iter().enumerate().any(inside));
-    let refusals = [(after_end, (25, 0)), (misplaced, (25, 4))];
-    let order = if mistake == Swapped25 { [1, 0] } else { [0, 1] };
-    for (applies, refusal) in order.map(|at| refusals[at]) {
-        if applies {
-            return Err(refusal);
-        }
-    }
+    first([after_end.then_some((25, 0)), misplaced.then_some((25, 4))], mistake == Swapped25)?;
     if fields[2].is_some() == (here == 0) {
         return Err((26, 2));
     }
