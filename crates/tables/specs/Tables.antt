@@ -1,4 +1,4 @@
--- The tables of judging: entry p of each is the definition at place p; drifts and bases are 0 past the places that are held.
+-- The tables of judging: entry p of each is the definition at place p; all but the first places are 0 past the places that are held.
 use mathlib.Core.List.{List, _++_}
 use Prim.Native.Nat.{ℕ, _-_}
 use lib.IntN.{ℤ, pos}
@@ -45,7 +45,7 @@ tableOf n f = record { at = tab n 0 (valuesOf f) ++ replicate (roomOf kind.Place
 
 -- what the ways into the places up to each add
 abbrev pub waySumsOf : Items → Table
-waySumsOf x = tableOf (roomOf kind.Place) (ways x)
+waySumsOf x = tableOf (length (x .places)) (ways x)
 
 -- what a round of each place's stretch adds
 abbrev pub driftsOf : Items → Table

@@ -1,14 +1,18 @@
 -- The counters of a case as sums that a loop over the places keeps: of the ways so far, and of the start and the rounds so far. Assumes nothing.
 use mathlib.Core.Path.{_≡_, refl, sym, _∙_, ap}
-use Prim.Native.Nat.{ℕ, zero, suc, _+_, _-_, _≤_, _<_}
+use Prim.Native.Nat.{ℕ, zero, suc, _+_, _-_, _≤_, _<_, min}
+use native.Mathlib.Decide.{decLt}
 use native.Mathlib.Numerals.{add-one}
 use native.Mathlib.Omega.{arith}
 use lib.IntN.{ℤ, pos, _+ℤ_, _-ℤ_, _*ℤ_, +ℤ-idl, +ℤ-idr, +ℤ-assoc, +ℤ-comm}
+use lib.ListN.{length, List·getD-eq-default}
 use borrow.Author.Tests.{le-leb, lt-leb}
 use Rattle.laws.specs.Arithmetic.{left-comm}
+use Rattle.kinds.specs.declared.Kind.the-variants as kind
 use Rattle.kinds.specs.Kinds.{counters}
 use Rattle.counters.specs.Sum.{Valuation}
-use Rattle.items.specs.Lists.{Items}
+use Rattle.items.specs.declared.Place.{Place}
+use Rattle.items.specs.Lists.{Items, noItem}
 use Rattle.rules.specs.Rules.{markAt}
 use Rattle.meaning.specs.Run.{stretch, moveAt, update}
 use Rattle.meaning_laws.specs.Facts.{Facts}
@@ -44,6 +48,20 @@ ways-are f j (suc p) = refl
 -- the ways before a place and the way into it
 pub ways-sum : {x : Items} → Facts x → (p : ℕ) → vecOf (λ j. waysBefore x j p +ℤ inBy x j p) ≡ vecOf (λ j. ways x j p)
 ways-sum {x} f p = values-same (λ j. waysBefore x j p +ℤ inBy x j p) (λ j. ways x j p) (λ j h. sym (ways-are f j p))
+
+-- no way leads into a place that isn't held
+pub ways-held : (x : Items) (j k : ℕ) → ways x j (min (suc k) (length (x .places)) - 1) ≡ ways x j k
+unfolding ways moveAt
+ways-held x j zero = let e : min 1 (length (x .places)) - 1 ≡ 0 = omega arith in ap (ways x j) e
+ways-held x j (suc k) =
+    elim (decLt (suc k) (length (x .places))) [
+      | yes h ↦ let e : min (suc (suc k)) (length (x .places)) - 1 ≡ suc k = omega arith in ap (ways x j) e
+      | no h ↦
+          let e : min (suc (suc k)) (length (x .places)) ≡ min (suc k) (length (x .places)) = omega arith in
+          let d = List·getD-eq-default (x .places) (noItem kind.Place) {n = suc k} (omega arith) in
+          let z = ap (λ (p : Place). update (moveAt (x .moves) (p .way)) j) d ∙ at-left (pos 0) counters j in
+          ap (λ n. ways x j (n - 1)) e ∙ ways-held x j k ∙ sym (ap (λ i. ways x j k +ℤ i) z ∙ +ℤ-idr (ways x j k))
+    ]
 
 module _ (x : Items) (θ : Valuation) (j : ℕ) where
   pub base-is : (p : ℕ) → base x θ j p ≡ ways x j p +ℤ roundsBefore x θ j p

@@ -1,6 +1,7 @@
 // What judging knows of each place of a plan: the first place of its stretch, what a round of the stretch adds to each counter, and the counters in its first
 // round.
 ghost use mathlib.Core.Path.{_≡_};
+ghost use Prim.Native.Nat.{_-_, _≤_, min};
 ghost use Rattle.collector.specs.Cases.{itemsOf};
 ghost use Rattle.collector.specs.Sound.{Sound};
 ghost use Rattle.meaning.specs.Run.{backOf};
@@ -75,20 +76,22 @@ impl Firsts {
     }
 }
 
-// What the ways into the places up to each add.
+// What the ways into the places up to each add, for the places that are held.
 fn ways(c: Case) -> Table
     requires { ⌜ Sound c ⌝ }
     ensures { λ r. ⌜ r ≡ waySumsOf (itemsOf c) ⌝ }
 {
+    let moves = c.moves;
+    let places = c.places;
     let mut at = [counters::zero(); Case::PLACES];
     let mut w = counters::zero();
     let mut p: usize = 0;
-    while p < Case::PLACES {
-        let place = c.places[p];
+    while p < c.count.places {
+        let place = places[p];
         let r = place.way;
         let t = slot(r);
         if t < Case::MOVES {
-            let m = c.moves[t];
+            let m = moves[t];
             let u = m.updates;
             w = counters::more(w, 1, counters::widened(u));
         }
@@ -96,6 +99,17 @@ fn ways(c: Case) -> Table
         p = p + 1;
     }
     Table { at: at }
+}
+
+// The last place before an end that is held, where n places are.
+fn last_held(end: usize, n: usize) -> usize
+    requires { ⌜ (1 ≤ end) × (1 ≤ n) ⌝ }
+    ensures { λ r. ⌜ r ≡ min end n - 1 ⌝ }
+{
+    if end < n {
+        return end - 1;
+    }
+    n - 1
 }
 
 // What a round of each place's stretch adds, for the places that are held.
@@ -111,7 +125,7 @@ fn drifts(c: Case, f: Firsts, w: Table) -> Table
         let q = f.at[p] as usize;
         let place = places[q];
         let mark = place.mark;
-        let e = q + rounds::stretch(mark) - 1;
+        let e = last_held(q + rounds::stretch(mark), c.count.places);
         let x = w.at[e];
         let y = w.at[q];
         let mut d = counters::more(x, -1, y);

@@ -58,6 +58,9 @@ module _ (i : tie.Then1 Inv-loop μ-loop) where
   below : p < roomOf kind.Place
   below = omega (arith, i .if1 .taken, t .pre .0 .room kind.Place)
 
+  held : p < length (x .places)
+  held = omega (arith, i .if1 .taken, counted (t .args .c) (t .pre .0) kind.Place)
+
   read-is : read ≡ q
   read-is = first-at (x .places) (t .pre .1) p below
 
@@ -66,7 +69,7 @@ module _ (i : tie.Then1 Inv-loop μ-loop) where
 
   -- what the ways up to it and the rounds before it add, and what a round of its stretch adds
   ways-have : HasValues (getD (t .args .t3 .at) p (record { at = [] })) (λ j. ways x j p)
-  ways-have = has _ (values-at (roomOf kind.Place) (ways x) (t .pre .2) p (record { at = [] }) below)
+  ways-have = has _ (values-at (length (x .places)) (ways x) (t .pre .2) p (record { at = [] }) held)
 
   rounds-have : HasValues (l .loop .r) (λ j. roundsBefore x (startOf x) j p)
   rounds-have = has _ (l .loop .inv .1)
@@ -74,8 +77,7 @@ module _ (i : tie.Then1 Inv-loop μ-loop) where
   drift-has : HasValues (getD (t .args .t4 .at) p (record { at = [] })) (λ j. drift x j q)
   drift-has =
       has _
-      (values-at (length (x .places)) (λ j n. drift x j (firstOf (x .places) n)) (t .pre .3) p (record { at = [] })
-      (omega (arith, i .if1 .taken, counted (t .args .c) (t .pre .0) kind.Place)))
+      (values-at (length (x .places)) (λ j n. drift x j (firstOf (x .places) n)) (t .pre .3) p (record { at = [] }) held)
 
 filled : (c : tie.After-more Inv-loop μ-loop) →
     let i = c .before .before .before in
