@@ -4,7 +4,7 @@ use mathlib.Core.Bool.{Bool, cond}
 use Prim.Native.Nat.{ℕ, suc, _+_, _<_}
 use native.Mathlib.Omega.{arith}
 use lib.Dec.{leb}
-use lib.ListN.{getD}
+use lib.ListN.{length, getD}
 use Rattle.kinds.specs.declared.Kind.the-variants as kind
 use Rattle.items.specs.declared.State.{State}
 use Rattle.items.specs.declared.Form.{Form}
@@ -31,7 +31,7 @@ use Rattle.marks.specs.Ranged.{Ranged, ranged}
 
 -- ---- whether the next moment's sentence holds, at place p
 
-module _ {c : Case} (s : Sound c) {f : Firsts} (e : f ≡ firstsOf (itemsOf c .places)) (p : ℕ) (h : p < roomOf kind.Place) where
+module _ {c : Case} (s : Sound c) {f : Firsts} (e : f ≡ firstsOf (itemsOf c .places)) (p : ℕ) (h : p < length (itemsOf c .places)) where
   abbrev x : Items
   x = itemsOf c
 

@@ -1,14 +1,14 @@
 -- The entries of the tables of judging: how they are read, how a loop fills them, and sums of them. Assumes nothing.
-use mathlib.Core.Path.{_≡_, sym, _∙_, ap, ap₂, subst}
+use mathlib.Core.Path.{_≡_, sym, _∙_, ap, ap₂}
 use mathlib.Core.List.{List, [], _∷_, _++_}
 use Prim.Native.Nat.{ℕ, zero, suc, _+_, _-_, _*_, _<_, _^_}
 use native.Mathlib.Numerals.{add-one}
 use native.Mathlib.Omega.{arith}
 use lib.IntN.{ℤ, _+ℤ_, _*ℤ_}
-use lib.ListN.{getD, set, replicate, List·getD-append}
+use lib.ListN.{length, getD, set, replicate, List·getD-append}
 use lib.Seq.{set-at, append-snoc}
 use Rattle.laws.specs.Sizes.{size}
-use Rattle.laws.specs.Tab.{tab, length-tab, at-tab, Filled, fill-more}
+use Rattle.laws.specs.Tab.{tab, length-tab, at-tab}
 use Rattle.kinds.specs.declared.Kind.the-variants as kind
 use Rattle.kinds.specs.Kinds.{counters}
 use Rattle.counters.specs.declared.Counters.{Counters}
@@ -27,9 +27,9 @@ module _ {A : Type 0} (g : ℕ → A) (n : ℕ) where
       let e : 0 + k ≡ k = omega arith in
       at-tab g n 0 k d h ∙ ap g e
 
-  -- one entry more
-  pub fill-next : (xs : List A) (k : ℕ) {v : A} → v ≡ g k → k < n → Filled g n xs k → Filled g n (set xs k v) (k + 1)
-  fill-next xs k e h f = subst (λ v. Filled g n (set xs k v) (k + 1)) (sym e) (fill-more g n xs k h f)
+  -- the same, whatever stands past the n entries
+  front : (l : List A) (k : ℕ) (d : A) → k < n → getD (tab n 0 g ++ l) k d ≡ g k
+  front l k d h = List·getD-append (tab n 0 g) l d k (omega (arith, length-tab g n 0)) ∙ entry k d h
 
   -- one entry more at the end
   tab-last : (k i : ℕ) {j : ℕ} → j ≡ i + k → tab k i g ++ (g j ∷ []) ≡ tab (suc k) i g
@@ -39,7 +39,7 @@ module _ {A : Type 0} (g : ℕ → A) (n : ℕ) where
   tab-last (suc k) i e = ap (λ l. g i ∷ l) (tab-last k (i + 1) (omega arith))
 
   -- the first k of n entries are those of g, and the others z: one entry of g more
-  front-next : (z : A) (k : ℕ) → k < n → set (tab k 0 g ++ replicate (n - k) z) k (g k) ≡ tab (k + 1) 0 g ++ replicate (n - (k + 1)) z
+  pub front-next : (z : A) (k : ℕ) → k < n → set (tab k 0 g ++ replicate (n - k) z) k (g k) ≡ tab (k + 1) 0 g ++ replicate (n - (k + 1)) z
   front-next z k h =
       let e : n - k ≡ suc (n - (k + 1)) = omega arith in
       let t : tab (k + 1) 0 g ≡ tab k 0 g ++ (g k ∷ []) = rw (add-one k) (sym (tab-last k 0 (omega arith))) in
@@ -48,15 +48,11 @@ module _ {A : Type 0} (g : ℕ → A) (n : ℕ) where
 
 -- ---- the tables
 
-pub first-at : {f : Firsts} (ps : List Place) → f ≡ firstsOf ps → (p : ℕ) → p < roomOf kind.Place → getD (f .at) p 0 ≡ firstOf ps p
-first-at ps e p h = ap (λ (f : Firsts). getD (f .at) p 0) e ∙ entry (firstOf ps) (roomOf kind.Place) p 0 h
+pub first-at : {f : Firsts} (ps : List Place) → f ≡ firstsOf ps → (p : ℕ) → p < length ps → getD (f .at) p 0 ≡ firstOf ps p
+first-at ps e p h = ap (λ (f : Firsts). getD (f .at) p 0) e ∙ front (firstOf ps) (length ps) _ p 0 h
 
 pub values-at : {t : Table} (n : ℕ) (f : ℕ → ℕ → ℤ) → t ≡ tableOf n f → (p : ℕ) (d : Counters) → p < n → getD (t .at) p d ≡ valuesOf f p
-values-at n f e p d h =
-    let v = valuesOf f in
-    ap (λ (t : Table). getD (t .at) p d) e
-    ∙ List·getD-append (tab n 0 v) (replicate (roomOf kind.Place - n) noValues) d p (omega (arith, length-tab v n 0))
-    ∙ entry v n p d h
+values-at n f e p d h = ap (λ (t : Table). getD (t .at) p d) e ∙ front (valuesOf f) n _ p d h
 
 -- ---- a table that a loop fills
 

@@ -2,6 +2,7 @@
 use mathlib.Core.Path.{_≡_, refl, _∙_, ap, ap₂}
 use mathlib.Core.Bool.{Bool, cond}
 use Prim.Native.Nat.{ℕ, _+_, _≤_, _<_}
+use native.Mathlib.Omega.{arith}
 use lib.ListN.{length, getD}
 use Rattle.kinds.specs.declared.Kind.the-variants as kind
 use Rattle.counters.specs.declared.Counters.{Counters}
@@ -10,6 +11,7 @@ use Rattle.items.specs.Lists.{Items, roomOf, noItem}
 use Rattle.collector.specs.declared.Case.{Case}
 use Rattle.collector.specs.Cases.{itemsOf}
 use Rattle.collector.specs.Sound.{Sound}
+use Rattle.rules_laws.specs.Held.{counted}
 use Rattle.meaning.specs.Run.{stretch}
 use Rattle.meaning.specs.Truth.{bit}
 use Rattle.meaning.specs.Judged.{startOf}
@@ -25,7 +27,7 @@ use Rattle.tables.specs.Reads.{at-places}
 use Rattle.tables.specs.Entries.{first-at, values-at}
 use Rattle.tables.specs.Stretches.{first-below, mark-is, end-in}
 
-module _ {c : Case} (s : Sound c) {f : Firsts} (e : f ≡ firstsOf (itemsOf c .places)) (p : ℕ) (h : p < roomOf kind.Place) where
+module _ {c : Case} (s : Sound c) {f : Firsts} (e : f ≡ firstsOf (itemsOf c .places)) (p : ℕ) (h : p < length (itemsOf c .places)) where
   -- the items, the first place of the stretch of place p, as the table has it, and what stands there
   abbrev x : Items
   x = itemsOf c
@@ -36,17 +38,20 @@ module _ {c : Case} (s : Sound c) {f : Firsts} (e : f ≡ firstsOf (itemsOf c .p
   abbrev place : Place
   place = getD (c .places) q (noItem kind.Place)
 
+  room : p < roomOf kind.Place
+  room = omega (arith, counted c s kind.Place, s .room kind.Place)
+
   pub first-is : q ≡ firstOf (x .places) p
   first-is = first-at (x .places) e p h
 
   pub first-within : q < roomOf kind.Place
-  first-within = first-below s p h first-is
+  first-within = first-below s p room first-is
 
   pub rounds-are : roundsOf (place .mark) ≡ roundsOf (loopOf (x .places) p)
-  rounds-are = ap roundsOf (mark-is s p h first-is)
+  rounds-are = ap roundsOf (mark-is s p room first-is)
 
   pub end-within : q + stretch (place .mark) ≤ roomOf kind.Place
-  end-within = end-in s p h first-is refl .1
+  end-within = end-in s p room first-is refl .1
 
 -- ---- the counters of a place that is held
 

@@ -1,4 +1,4 @@
--- The tables of judging: entry p of each is the definition at place p; all but the first places are 0 past the places that are held.
+-- The tables of judging: entry p of each is the definition at place p, and 0 past the places that are held.
 use mathlib.Core.List.{List, _++_}
 use Prim.Native.Nat.{ℕ, _-_}
 use lib.IntN.{ℤ, pos}
@@ -31,9 +31,9 @@ abbrev pub slotOf : Ref → ℕ
 slotOf ref.None = roomOf kind.Move
 slotOf (ref.At t) = t
 
--- the first places
+-- the first places, and 0 past the places that are held
 abbrev pub firstsOf : List Place → Firsts
-firstsOf ps = record { at = tab (roomOf kind.Place) 0 (firstOf ps) }
+firstsOf ps = record { at = tab (length ps) 0 (firstOf ps) ++ replicate (roomOf kind.Place - length ps) 0 }
 
 -- the values f j at place p
 abbrev pub valuesOf : (ℕ → ℕ → ℤ) → ℕ → Counters

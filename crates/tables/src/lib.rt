@@ -12,7 +12,7 @@ use counters::Counters;
 use items::LoopMark;
 use items::Ref;
 
-// The first place of the stretch of each place.
+// The first place of the stretch of each place that is held.
 pub struct Firsts {
     pub at: [u8; Case::PLACES],
 }
@@ -60,13 +60,14 @@ impl Firsts {
         requires { ⌜ Sound c ⌝ }
         ensures { λ r. ⌜ r ≡ firstsOf (itemsOf c .places) ⌝ }
     {
+        let places = c.places;
         let mut at = [0u8; Case::PLACES];
         let mut first: usize = 0;
         let mut p: usize = 0;
-        while p < Case::PLACES {
+        while p < c.count.places {
             at[p] = first as u8;
             p = p + 1;
-            let place = c.places[first];
+            let place = places[first];
             let mark = place.mark;
             if first + rounds::stretch(mark) <= p {
                 first = p;

@@ -144,7 +144,7 @@ module _ {c : Case} (s : Sound c) (k : ℕ) (h : k < 4 * c .count .places) where
 
 -- ---- the rounds of a way into place p, as the code reads them
 
-module _ {c : Case} (s : Sound c) {f : Firsts} (e : f ≡ firstsOf (itemsOf c .places)) (p : ℕ) (h : p < roomOf kind.Place) where
+module _ {c : Case} (s : Sound c) {f : Firsts} (e : f ≡ firstsOf (itemsOf c .places)) (p : ℕ) (h : p < length (itemsOf c .places)) where
   pub rounds-at : (back : Bool) →
       let q = getD (f .at) p 0 in
       let own = getD (c .places) p (noItem kind.Place) .mark in

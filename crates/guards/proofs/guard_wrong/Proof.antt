@@ -66,7 +66,7 @@ module _ (c : tie.Then1 Inv-loop μ-loop) where
   room = omega (arith, t .pre .0 .room kind.Place)
 
   within : getD (t .args .t .firsts .at) p 0 < roomOf kind.Place
-  within = first-within (t .pre .0) (ap (λ (t : Tables). t .firsts) (t .pre .1)) p room
+  within = first-within (t .pre .0) (ap (λ (t : Tables). t .firsts) (t .pre .1)) p inside
 
 guard-at-requires : tie.Need-guard-at-requires Inv-loop μ-loop
 guard-at-requires c κs = search needs
@@ -125,7 +125,7 @@ module _ (c : tie.After-rounds-of Inv-loop μ-loop) where
       }
 
   rounds : c .rounds-of .result ≡ roundsOf (loopOf (x (t l) .places) (p l))
-  rounds = c .rounds-of .ensures ∙ rounds-are (t l .pre .0) (ap (λ (t : Tables). t .firsts) (t l .pre .1)) (p l) (room l)
+  rounds = c .rounds-of .ensures ∙ rounds-are (t l .pre .0) (ap (λ (t : Tables). t .firsts) (t l .pre .1)) (p l) (inside l)
 
 guard-through-requires : tie.Need-guard-through-requires Inv-loop μ-loop
 guard-through-requires c κs = guard-fits (facts (t (l c) .args .c) (t (l c) .pre .0)) (known c) (rounds c) (room (l c))

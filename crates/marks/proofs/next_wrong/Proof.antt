@@ -6,7 +6,7 @@ use mathlib.Core.Path.{_≡_, _∙_, sym, ap}
 use mathlib.Core.Logic.{⊎-elim}
 use Prim.Native.Nat.{ℕ, suc, _-_, _≤_, _<_}
 use native.Mathlib.Omega.{arith}
-use lib.ListN.{getD}
+use lib.ListN.{length, getD}
 use Rattle.kinds.specs.declared.Kind.the-variants as kind
 use Rattle.items.specs.declared.Place.{Place}
 use Rattle.collector.specs.Cases.{itemsOf}
@@ -43,8 +43,11 @@ module _ (c : tie.In-loop Inv-loop μ-loop) where
   inside : p < roomOf kind.Place
   inside = omega (arith, t .pre .0 .room kind.Place)
 
+  held : p < length (itemsOf (t .args .t1) .places)
+  held = omega (arith, counted (t .args .t1) (t .pre .0) kind.Place)
+
   within : getD (t .args .t2 .at) p 0 < roomOf kind.Place
-  within = first-within (t .pre .0) (t .pre .1) p inside
+  within = first-within (t .pre .0) (t .pre .1) p held
 
 loop-holds : tie.Need-loop-holds Inv-loop μ-loop
 loop-holds c =
@@ -79,7 +82,7 @@ bit-requires c κs = search needs
 next-through-requires : tie.Need-next-through-requires Inv-loop μ-loop
 next-through-requires c κs =
     let l = c .before .before .before .before in
-    (inside l, end-within (t l .pre .0) (t l .pre .1) (p l) (inside l))
+    (inside l, end-within (t l .pre .0) (t l .pre .1) (p l) (held l))
 
 bit-requires-2 : tie.Need-bit-requires-2 Inv-loop μ-loop
 bit-requires-2 c κs = search needs
@@ -108,7 +111,7 @@ test c =
     let d = c .before .before in
     c .is-right .ensures
     ∙ right-is s (p l) (t l .args .i) (nextThrough x a) (c .before .bit2 .ensures)
-    (d .next-through .ensures ∙ next-is s (t l .pre .1) (p l) (inside l) a (d .before .bit .ensures) (m .inv .1 .0 ∙ ap (marked x a) e))
+    (d .next-through .ensures ∙ next-is s (t l .pre .1) (p l) (held l) a (d .before .bit .ensures) (m .inv .1 .0 ∙ ap (marked x a) e))
 
 loop-again : tie.Need-loop-again Inv-loop μ-loop
 loop-again c =

@@ -62,7 +62,7 @@ module _ (i : tie.Then1 Inv-loop μ-loop) where
   held = omega (arith, i .if1 .taken, counted (t .args .c) (t .pre .0) kind.Place)
 
   read-is : read ≡ q
-  read-is = first-at (x .places) (t .pre .1) p below
+  read-is = first-at (x .places) (t .pre .1) p held
 
   read-below : read < roomOf kind.Place
   read-below = first-below (t .pre .0) p below read-is

@@ -100,7 +100,7 @@ module _ (c : tie.In-loop Inv-loop μ-loop) where
   below = omega (arith, few b)
 
   first-is : q ≡ firstOf (x b .places) p
-  first-is = first-at (x b .places) (t b .pre .1 .0) p below
+  first-is = first-at (x b .places) (t b .pre .1 .0) p (omega arith)
 
   first-in : q < roomOf kind.Place
   first-in = first-below (t b .pre .0) p below first-is

@@ -86,7 +86,7 @@ first-room : (c : tie.After-f Inv-loop μ-loop) →
     getD (start l .args .t .firsts .at) (l .loop .k / 2 / 2) 0 < roomOf kind.Place
 first-room c =
     let l = c .before .before .before .before .before .before .before .before .before .before .before in
-    first-within (start l .pre .0) (firsts-are (start l)) (l .loop .k / 2 / 2) (inside (c .before .before .before .before .before .before .before .before .before))
+    first-within (start l .pre .0) (firsts-are (start l)) (l .loop .k / 2 / 2) (held (c .before .before .before .before .before .before .before .before .before))
 
 rounds-are : (c : tie.After-rounds-by Inv-loop μ-loop) →
     let l = c .before .before .before .before .before .before .before .before .before .before .before .before .before .before .before in
@@ -95,7 +95,7 @@ rounds-are c =
     let i = c .before .before .before .before .before .before .before .before .before .before .before .before .before in
     let l = i .before .before in
     let w = wayNo (l .loop .k / 2) in
-    c .rounds-by .ensures ∙ rounds-at (start l .pre .0) (firsts-are (start l)) (w .place) (inside i) (w .back)
+    c .rounds-by .ensures ∙ rounds-at (start l .pre .0) (firsts-are (start l)) (w .place) (held i) (w .back)
 
 loop-holds : tie.Need-loop-holds Inv-loop μ-loop
 loop-holds c = tests-start (itemsOf (c .before .before .before .before .before .before .args .c))
