@@ -92,6 +92,8 @@ def builds(tally, folder, path):
     write(WRITES % "4 5 6", "4 5 6\n")
     tally.equal("built after a change", second[:2], run(*command)[:2])
     tally.equal("built after a change, and not again", second, run(*command))
+    program.write_text("#!/bin/sh\necho 1\nkill -9 $$\n")
+    refused(tally, "a program that is killed", 1, run(*command))
     write(PAST_THE_END, "")
     refused(tally, "not proved", 2, run(*command))
     tally.equal("not proved: there is a program", False, program.exists())

@@ -9,11 +9,11 @@ use std::cell::Cell;
 #[derive(Debug)]
 pub struct TooLong;
 
-/// The answer for a file, with at most `steps` steps of unrolling.
-pub fn check(bytes: &[u8], mistake: Mistake, steps: u64) -> Result<Answer, TooLong> {
+/// The answer for a file, with at most `steps` steps of unrolling; and the case, where all records are taken.
+pub fn check(bytes: &[u8], mistake: Mistake, steps: u64) -> Result<(Answer, Option<Case>), TooLong> {
     match read(bytes, mistake) {
-        Ok(case) => judge(&case, mistake, steps),
-        Err(refused) => Ok(refused),
+        Ok(case) => Ok((judge(&case, mistake, steps)?, Some(case))),
+        Err(refused) => Ok((refused, None)),
     }
 }
 

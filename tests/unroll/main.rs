@@ -9,10 +9,10 @@ mod random;
 mod reader;
 
 use checker::check;
-use library::RESULTS;
+use library::{Answer, RESULTS};
 use mistakes::{Mistake, MISTAKES};
 use random::{misspelled, random_file, Random};
-use reader::{read, Case, Fields, F, P, ROOM, T};
+use reader::{Case, Fields, F, P, ROOM, T};
 use std::collections::BTreeMap;
 use std::process::exit;
 
@@ -54,10 +54,10 @@ struct Seen {
 }
 
 impl Seen {
-    /// One more case, its answer, and whether each mistake would have been found by it.
-    fn add(&mut self, bytes: &[u8], answer: library::Answer) {
+    /// One more file, its answer and its case.
+    fn add(&mut self, bytes: &[u8], answer: Answer, case: Option<Case>) {
         *self.results.entry(answer[0]).or_default() += 1;
-        if let Ok(case) = read(bytes, Mistake::Nothing) {
+        if let Some(case) = case {
             self.rich += (answer[0] == 0 && guarded_loop(&case) && counting_until(&case)) as usize;
             for (times, (items, room)) in self.full.iter_mut().zip(case.0.iter().zip(ROOM)) {
                 *times += (items.len() == room) as usize;
@@ -65,7 +65,7 @@ impl Seen {
         }
         for (times, (mistake, _)) in self.found.iter_mut().zip(MISTAKES) {
             if *times < FOUND {
-                *times += check(bytes, *mistake, STEPS).is_ok_and(|wrong| wrong != answer) as usize;
+                *times += check(bytes, *mistake, STEPS).is_ok_and(|(wrong, _)| wrong != answer) as usize;
             }
         }
         self.compared += 1;
@@ -98,7 +98,7 @@ fn cases(count: usize, seed: u64) -> bool {
         if seen.compared == count {
             break;
         }
-        let Ok(answer) = check(&bytes, Mistake::Nothing, STEPS) else {
+        let Ok((answer, case)) = check(&bytes, Mistake::Nothing, STEPS) else {
             seen.too_long += 1;
             continue;
         };
@@ -109,7 +109,7 @@ fn cases(count: usize, seed: u64) -> bool {
             println!("unroll: cases: {} passed, 1 failed", seen.compared);
             return false;
         }
-        seen.add(&bytes, answer);
+        seen.add(&bytes, answer, case);
     }
     let found = seen.found.iter().filter(|&&times| times == FOUND).count();
     println!("unroll: how often each result: {:?}; cases that fill a room: {:?}", seen.results, seen.full);
@@ -122,7 +122,7 @@ fn main() {
     let words: Vec<&str> = words.iter().map(String::as_str).collect();
     let right = match words[..] {
         ["cases", count, seed] => cases(count.parse().expect("a count"), seed.parse().expect("a seed")),
-        ["stored"] => library::stored("unroll", |bytes| check(bytes, Mistake::Nothing, STORED_STEPS).ok()),
+        ["stored"] => library::stored("unroll", |bytes| Some(check(bytes, Mistake::Nothing, STORED_STEPS).ok()?.0)),
         _ => panic!("unroll cases COUNT SEED, or unroll stored"),
     };
     if !right {

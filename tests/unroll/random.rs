@@ -304,7 +304,7 @@ fn by_place(run: &Run, truth: &[bool], last: bool) -> Vec<bool> {
 }
 
 /// What a field may have in place of a number, with `|` between them: bad spellings, no number, and the first and last numbers that fit or don't.
-const SPELLINGS: &[u8] = b"|-|+1|1,250|1.5|007|-0|00|12 3| 5 |1 |0 |- 1|--1|1-|-00001|1e3|x|\t1|\xb2|-999999|9999999|-1000000|10000000";
+const SPELLINGS: &[u8] = b"|-|+1|1,250|1.5|007|-0|00|12 3| 5 |1 |0 |- 1|--1|1-|-00001|1e3|x|\t|\t1|\xb2|-999999|9999999|-1000000|10000000";
 const NUMBERS: [i64; 26] = [
     -1, 0, 1, 2, 3, 5, 6, 7, 15, 16, 31, 32, 63, 64, 999, 1_000, -1_000, 9_999, 10_000, -10_000, 65_535, 65_536, 1_048_575, 1_048_576, 1_000_001,
     HIGHEST,
