@@ -93,7 +93,7 @@ fn nanoseconds(calls: usize, call: fn(&[u8]) -> usize, file: &[u8]) -> f64 {
 
 /// The medians of both, by turns.
 fn medians(benches: &[Bench], turns: usize) -> Vec<[f64; 2]> {
-    let mut times = vec![[const { Vec::new() }; 2]; benches.len()];
+    let mut times: Vec<[Vec<f64>; 2]> = benches.iter().map(|_| [Vec::new(), Vec::new()]).collect();
     for _ in 0..turns {
         for (bench, [proved, plain]) in benches.iter().zip(&mut times) {
             proved.push(nanoseconds(bench.calls, bench.proved, &bench.file));

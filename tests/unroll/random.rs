@@ -202,7 +202,7 @@ impl Maker<'_> {
                 truths.push(truth);
             }
         }
-        if truths.last().is_none_or(|root| !root[0]) && self.r.chance(97) {
+        if !truths.last().is_some_and(|root| root[0]) && self.r.chance(97) {
             let negated = truths.last().map(|root| root.iter().map(|truth| !truth).collect());
             self.case.0[F].push(if negated.is_some() { filled(&[4, truths.len() as i64 - 1]) } else { filled(&[0]) });
             truths.push(negated.unwrap_or(vec![true; run.moments.len()]));
