@@ -2,7 +2,6 @@
 ghost use mathlib.Core.Path.{_≡_};
 ghost use lib.ListN.{take};
 ghost use Rattle.casefile.specs.Answer.{answerOf};
-use answers::Judgement;
 use answers::Told;
 use collector::Case;
 use record::Record;

@@ -18,11 +18,8 @@ use tables::Tables;
 fn finished(count: Counts, loops: Loops) -> bool
     ensures { λ r. ⌜ r ≡ (ltb 0 (count .sentences) && isClosed loops (count .places)) ⌝ }
 {
-    let end = loops.end;
     if 0 < count.sentences {
-        if loops.endless {
-            return end.0 <= count.places;
-        }
+        return loops.closed(count.places);
     }
     false
 }

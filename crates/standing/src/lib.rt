@@ -62,7 +62,7 @@ impl Loops {
     }
 
     // Whether the endless loop has closed where n places are held.
-    fn closed(self, n: usize) -> bool
+    pub fn closed(self, n: usize) -> bool
         ensures { λ r. ⌜ r ≡ isClosed self n ⌝ }
     {
         let end = self.end;
