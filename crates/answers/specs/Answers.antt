@@ -11,13 +11,13 @@ use Rattle.answers.specs.declared.Judgement.the-variants.{Accepted, Guar
 use Rattle.answers.specs.declared.Judgement.{Judgement}
 use Rattle.answers.specs.declared.Told.{Told}
 
--- the result of each answer to a record, and the field that it names, counted from 1; 0 where it names none
+-- the result of each answer to a record, and its third number: the place in the record of the byte that it names, or its field, counted from 1; 0 for none
 abbrev pub told : Answer → ℕ × ℕ
 told Taken = (0, 0)
 told NotARecord = (11, 0)
 told NoLineFeed = (12, 0)
 told NoSuchKind = (13, 0)
-told (Misspelled f) = (14, f)
+told (Misspelled p) = (14, p)
 told (Misfilled f) = (15, f)
 told (OutOfRange f) = (16, f)
 told OutOfOrder = (21, 0)
@@ -30,11 +30,11 @@ told WrongWayIn = (26, 2)
 abbrev pub numberOf : Answer → ℕ
 numberOf a = told a .0
 
--- the field of an answer
-abbrev pub fieldOf : Answer → ℕ
-fieldOf a = told a .1
+-- the third number of an answer
+abbrev pub thirdOf : Answer → ℕ
+thirdOf a = told a .1
 
--- the refusals in the order in which they are tested; f is the field of those that name one
+-- the refusals in the order in which they are tested; f is the third number of those that name a byte or a field
 abbrev pub testOrder : ℕ → List Answer
 testOrder f =
     NotARecord ∷ NoLineFeed ∷ NoSuchKind ∷ Misspelled f ∷ Misfilled f ∷ OutOfRange f ∷ OutOfOrder ∷ NoRoom ∷ NotThere f ∷ Misplaced f ∷ WrongWayIn ∷ []
@@ -53,7 +53,7 @@ isTaken Taken = true
 isTaken NotARecord = false
 isTaken NoLineFeed = false
 isTaken NoSuchKind = false
-isTaken (Misspelled f) = false
+isTaken (Misspelled p) = false
 isTaken (Misfilled f) = false
 isTaken (OutOfRange f) = false
 isTaken OutOfOrder = false
@@ -62,9 +62,9 @@ isTaken (NotThere f) = false
 isTaken (Misplaced f) = false
 isTaken WrongWayIn = false
 
--- the numbers of a refusal: its result, the record and the field
+-- the numbers of a refusal: its result, the record, and the byte or the field
 abbrev pub refusal : ℕ → Answer → Told
-refusal k a = record { result = numberOf a; second = k; third = fieldOf a }
+refusal k a = record { result = numberOf a; second = k; third = thirdOf a }
 
 -- three numbers
 abbrev pub numbers : ℕ → ℕ → ℕ → Told

@@ -7,16 +7,16 @@ use Rattle.laws.specs.Lowest.{lowest}
 use Rattle.laws.specs.Tests.{cond-by}
 use Rattle.answers.specs.declared.Answer.{Answer}
 use Rattle.answers.specs.declared.Answer.the-variants.{Misfilled, Misplaced, Misspelled, NoLineFeed, NoRoom, NoSuchKind, NotARecord, NotThere, OutOfOrder, OutOfRange, Taken, WrongWayIn}
-use Rattle.answers.specs.Answers.{fieldOf, numberOf, testOrder, turnOf, isTaken}
+use Rattle.answers.specs.Answers.{thirdOf, numberOf, testOrder, turnOf, isTaken}
 
--- every answer is the one that stands at its place, with its field
-pub in-order : (a : Answer) → getD (testOrder (fieldOf a)) (turnOf (numberOf a)) Taken ≡ a
+-- every answer is the one that stands at its place, with its third number
+pub in-order : (a : Answer) → getD (testOrder (thirdOf a)) (turnOf (numberOf a)) Taken ≡ a
 unfolding lowest
 in-order Taken = refl
 in-order NotARecord = refl
 in-order NoLineFeed = refl
 in-order NoSuchKind = refl
-in-order (Misspelled f) = refl
+in-order (Misspelled p) = refl
 in-order (Misfilled f) = refl
 in-order (OutOfRange f) = refl
 in-order OutOfOrder = refl
@@ -31,7 +31,7 @@ taken-is Taken = refl
 taken-is NotARecord = refl
 taken-is NoLineFeed = refl
 taken-is NoSuchKind = refl
-taken-is (Misspelled f) = refl
+taken-is (Misspelled p) = refl
 taken-is (Misfilled f) = refl
 taken-is (OutOfRange f) = refl
 taken-is OutOfOrder = refl

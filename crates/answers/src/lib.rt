@@ -1,15 +1,15 @@
 // Every answer of the checker: to a record, and of a judgement; with the three numbers that document 01 has for it.
 ghost use mathlib.Core.Path.{_≡_};
-ghost use Rattle.answers.specs.Answers.{isTaken, numberOf, fieldOf, numbersOf};
+ghost use Rattle.answers.specs.Answers.{isTaken, numberOf, thirdOf, numbersOf};
 use items::PlaceNo;
 
-// What a record is answered; with a field, counted from 1, where one is named.
+// What a record is answered; with a field, counted from 1, where one is named, and for a field that is misspelled the place of its bad byte in the record.
 pub enum Answer {
     Taken,
     NotARecord,
     NoLineFeed,
     NoSuchKind,
-    Misspelled(u8),
+    Misspelled(u16),
     Misfilled(u8),
     OutOfRange(u8),
     OutOfOrder,
@@ -65,22 +65,22 @@ impl Answer {
         }
     }
 
-    // The field that an answer names, counted from 1; 0 where it names none.
-    pub fn field(self) -> u8
-        ensures { λ r. ⌜ r ≡ fieldOf self ⌝ }
+    // The third number of an answer: the byte or the field that it names; 0 where it names none.
+    pub fn third(self) -> u16
+        ensures { λ r. ⌜ r ≡ thirdOf self ⌝ }
     {
         match self {
             Answer::Taken => 0,
             Answer::NotARecord => 0,
             Answer::NoLineFeed => 0,
             Answer::NoSuchKind => 0,
-            Answer::Misspelled(field) => field,
-            Answer::Misfilled(field) => field,
-            Answer::OutOfRange(field) => field,
+            Answer::Misspelled(byte) => byte,
+            Answer::Misfilled(field) => field as u16,
+            Answer::OutOfRange(field) => field as u16,
             Answer::OutOfOrder => 0,
             Answer::NoRoom => 0,
-            Answer::NotThere(field) => field,
-            Answer::Misplaced(field) => field,
+            Answer::NotThere(field) => field as u16,
+            Answer::Misplaced(field) => field as u16,
             Answer::WrongWayIn => 2,
         }
     }

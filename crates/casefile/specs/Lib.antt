@@ -1,7 +1,6 @@
 pub mod Answer
 pub mod Listed
 pub mod Bounded
-pub mod Whole
 pub mod Refused
 pub mod Taken
 pub mod Demands

@@ -33,8 +33,9 @@ use Rattle.collector.specs.declared.Collected.{Collected}
 use Rattle.collector.specs.Cases.{emptyCase, itemsOf}
 use Rattle.collector.specs.Taking.{takenOf, collectedFrom, collectedOf}
 use Rattle.collector.specs.Sound.{Sound}
-use Rattle.rules_laws.specs.Tells.{tells-bad, tells-missing, tells-extra, tells-outside, tells-there}
-use Rattle.rules_laws.specs.Stages.{past-fault}
+use Rattle.rules_laws.specs.Tells.{tells-missing, tells-extra, tells-outside, tells-there}
+use Rattle.rules_laws.specs.Stages.{in-record}
+use Rattle.rules_laws.specs.Bytes.{bad-in}
 use Rattle.rules_laws.specs.Held.{sound-is-kept, counted, counts-are, total-room, taken-with}
 use Rattle.rules_laws.specs.Kept.{sound-empty, sound-kept}
 use Rattle.rules_laws.specs.Spelled.{size-more}
@@ -51,23 +52,13 @@ use Rattle.casefile.specs.Answer.{answerAfter, answerOf}
 
 -- ---- a record
 
--- a field with a fault is one of a record's
-in-record : (f : Fault) (s : Shape) (bs : List ℕ) (g : ℕ) → faultAt f s (recordOf bs) g ≡ true → (1 ≤ g) × (g ≤ fields)
-in-record f s bs g e = (
-  elim (decLt 0 g) [ yes h ↦ h | no h ↦ absurd (out (λ l. absurd (omega arith))) ],
-  elim (decLt fields g) [ yes h ↦ absurd (out (λ l. h)) | no h ↦ omega arith ],
-)
-  where
-    out : (0 < g → fields < g) → ⊥
-    out h = true≢false (sym e ∙ past-fault f s bs g h)
-
--- a refusal that applies names a field that it may name
+-- a refusal that applies names a field, or a byte of one, that it may name
 field-fits : (x : Items) (bs : List ℕ) (a : Answer) → Applies x bs a → FieldFits a
 field-fits x bs answer.Taken w = absurd w
 field-fits x bs answer.NotARecord w = tt
 field-fits x bs answer.NoLineFeed w = tt
 field-fits x bs answer.NoSuchKind w = tt
-field-fits x bs (answer.Misspelled f) l = in-record fault.Misspelled (shapeOf kind.State (recordOf bs)) bs f (tells-bad (fieldsOf bs) f .1 (l .holds))
+field-fits x bs (answer.Misspelled p) (f, k, l, b, e) = let (h, i) = bad-in bs f k b in (omega arith, omega (arith, b .0))
 field-fits x bs (answer.Misfilled f) (k, is, form, w) =
     ⊎-elim (λ l. in-record fault.Missing (shapeOf k (recordOf bs)) bs f (tells-missing k (fieldsOf bs) f .1 (l .holds)))
     (λ (full, l). in-record fault.Extra (shapeOf k (recordOf bs)) bs f (tells-extra k (fieldsOf bs) f .1 (l .holds))) w

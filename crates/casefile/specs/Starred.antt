@@ -9,7 +9,7 @@ use lib.ListN.{take, set}
 use Rattle.laws.specs.Lowest.{lowest}
 use Rattle.laws.specs.Tab.{tab}
 use Rattle.laws.specs.All.{from, gather, sumOver}
-use Rattle.record.specs.Spelling.{contentOf, negative, alone, leading, digits}
+use Rattle.record.specs.Spelling.{contentFrom, negative, alone, leading, digits}
 use Rattle.record.specs.Spell.{lastDigits, numeral}
 use Rattle.record.specs.Layout.{fieldAt, recordOf, cutFrom, cut}
 use Rattle.kinds.specs.Kinds.{kindIn}
@@ -91,7 +91,7 @@ rootGone =
 unfoldable pub starred : List Row
 starred =
     (twelveRounds, "0 0 0\n")
-    ∷ (withRecord 4 "T      0      1  1,250      0      0      0      1       \n", "14 4 3\n")
+    ∷ (withRecord 4 "T      0      1  1,250      0      0      0      1       \n", "14 4 18\n")
     ∷ (withRecord 4 "T      0      1   1251      0      0      0      1       \n", "33 1 1\n")
     ∷ (withRecord 11 "P      0            21      2      0      1              \n", "16 11 5\n")
     ∷ (take 14 twelveRounds, "24 14 0\n")
@@ -103,5 +103,5 @@ starred =
     ∷ []
 
 pub starred-lines : answered starred ≡ expected starred
-unfolding starred rootGone withRecord twelveRounds bytesOf lowest contentOf negative alone leading digits lastDigits numeral fieldAt recordOf sumOver kindIn lastBelow shapeOf ruleAt lowestFault rangeAnswer extraAnswer missingAnswer formAnswer fieldsAnswer endedHead headOf perCounter stateOf guardOf moveOf formOf sentenceOf markOf placeOf emptyCase wayAnswer markAnswer placeAnswer thereAnswer roomAnswer orderAnswer standing.recordAnswer takenAs takenOf cutFrom cut collectedFrom collectedOf loopsFrom moveAt sum bit weightOf from gather startOf firstOf through ways drift base greater step chain wholeSum power limit front formThrough firstNot verdict lineOf answerOf
+unfolding starred rootGone withRecord twelveRounds bytesOf lowest contentFrom negative alone leading digits lastDigits numeral fieldAt recordOf sumOver kindIn lastBelow shapeOf ruleAt lowestFault rangeAnswer extraAnswer missingAnswer formAnswer fieldsAnswer endedHead headOf perCounter stateOf guardOf moveOf formOf sentenceOf markOf placeOf emptyCase wayAnswer markAnswer placeAnswer thereAnswer roomAnswer orderAnswer standing.recordAnswer takenAs takenOf cutFrom cut collectedFrom collectedOf loopsFrom moveAt sum bit weightOf from gather startOf firstOf through ways drift base greater step chain wholeSum power limit front formThrough firstNot verdict lineOf answerOf
 starred-lines = refl

@@ -1,13 +1,16 @@
 -- What a file is answered, by the meaning: where its records are all taken, the numbers of the one answer that its case is judged; and the result is 0 exactly
--- where the file is accepted. Assumes nothing.
+-- where the file is accepted; and where the result is 14, which byte it names. Assumes nothing.
 use mathlib.Core.Path.{_≡_, refl, _∙_, sym, ap, subst}
 use mathlib.Core.Logic.{_↔_, Iff·trans, ⊎-elim}
-use mathlib.Core.List.{List, map}
+use mathlib.Core.List.{List, [], map}
 use mathlib.Core.Bool.{true, cond, true≢false}
 use Prim.Native.Nat.{ℕ}
+use native.Mathlib.Omega.{arith}
 use lib.Dec.{eqb}
+use lib.ListN.{getD}
 use borrow.Author.Tests.{eq-eqb}
-use Rattle.record.specs.Layout.{cut}
+use Rattle.laws.specs.Lowest.{lowest}
+use Rattle.record.specs.Layout.{byteIn, cut}
 use Rattle.kinds.specs.declared.Kind.{Kind}
 use Rattle.counters.specs.Sum.{Valuation}
 use Rattle.items.specs.Items.{rowOf}
@@ -15,12 +18,13 @@ use Rattle.items.specs.Lists.{Items, listOf}
 use Rattle.answers.specs.declared.Told.{Told}
 use Rattle.answers.specs.declared.Judgement.{Judgement}
 use Rattle.answers.specs.declared.Judgement.the-variants.{Accepted, Unfinished, WrongStart, Unconnected, GuardFails, WrongMark, RootUnmarked}
-use Rattle.answers.specs.Answers.{numberOf, isTaken, numbersOf}
+use Rattle.answers.specs.Answers.{numberOf, turnOf, isTaken, numbersOf}
 use Rattle.answers.specs.Laws.{taken-is}
+use Rattle.rules.specs.Rules.{BadAt, HasBad, Lowest}
 use Rattle.rules.specs.Files.{rowsOf, spelled, AllTaken}
 use Rattle.collector.specs.Cases.{emptyCase, itemsOf}
 use Rattle.collector.specs.Taking.{collectedOf}
-use Rattle.rules_laws.specs.Stages.{refuses}
+use Rattle.rules_laws.specs.Stages.{renumbered, refuses}
 use Rattle.rules_laws.specs.Theorems.{sound, spelled-case}
 use Rattle.meaning.specs.Judged.{Finished, IsAccepted, Judged, startOf}
 use Rattle.meaning.specs.Paper.{Means}
@@ -124,3 +128,30 @@ file-means bs = (
   λ a. let f = a .case .0 .0 .0 .0 .0 in (a .taken, f, taken-means bs (a .taken) f .0 (a .case)),
   λ (t, f, m). record { taken = t; case = taken-means bs t f .1 m },
 )
+
+-- ---- the byte of 14
+
+-- 14 is no result of a judgement
+judged-otherwise : (a : Judgement) → numbersOf a .result ≡ 14 → ⊥
+judged-otherwise Accepted e = omega arith
+judged-otherwise (Unfinished n) e = omega arith
+judged-otherwise WrongStart e = omega arith
+judged-otherwise (Unconnected p t) e = omega arith
+judged-otherwise (GuardFails p g) e = omega arith
+judged-otherwise (WrongMark p i) e = omega arith
+judged-otherwise (RootUnmarked r) e = omega arith
+
+-- the third number of t is the place of the bad byte of the record that its second number names, one of the file bs
+abbrev NamesBad : List ℕ → Told → Type 0
+NamesBad bs t =
+    let b = getD (cut bs) (t .second) [] in
+    (f : ℕ) × (k : ℕ) × Lowest (HasBad b) f × BadAt b f k × (t .third ≡ byteIn f k)
+
+pub names-bad : (bs : List ℕ) → answerOf bs .result ≡ 14 → NamesBad bs (answerOf bs)
+unfolding lowest
+names-bad bs e =
+    ⊎-elim (λ t. absurd (judged-otherwise (judgement bs t) (ap (λ n. n .result) (sym (answer-is bs t)) ∙ e)))
+    (λ (k, a, r).
+    let s = file-ends bs k a r .0 in
+    subst (NamesBad bs) (sym s) (renumbered _ (getD (cut bs) k []) a 14 (ap (λ n. turnOf (n .result)) (sym s) ∙ ap turnOf e) (r .first .applies)))
+    (file-refused bs)

@@ -10,7 +10,7 @@ use lib.IntN.{ℤ, pos}
 use lib.ListN.{take, set}
 use Rattle.laws.specs.Lowest.{lowest}
 use Rattle.laws.specs.All.{none, All, also, from, gather, sumOver}
-use Rattle.record.specs.Spelling.{contentOf, negative, alone, leading, digits}
+use Rattle.record.specs.Spelling.{contentFrom, negative, alone, leading, digits}
 use Rattle.record.specs.Layout.{fieldAt, recordOf, cutFrom, cut}
 use Rattle.kinds.specs.Kinds.{kindIn}
 use Rattle.kinds.specs.Last.{lastBelow}
@@ -195,7 +195,7 @@ worked =
     ∷ []
 
 worked-answers : map (λ (r : Worked). answerOf (bytesOf (r .0))) worked ≡ map (λ (r : Worked). r .1) worked
-unfolding worked fourRounds rising looped both withRecord twelveRounds bytesOf lowest contentOf negative alone leading digits fieldAt recordOf sumOver kindIn lastBelow shapeOf ruleAt lowestFault rangeAnswer extraAnswer missingAnswer formAnswer fieldsAnswer endedHead headOf perCounter stateOf guardOf moveOf formOf sentenceOf markOf placeOf emptyCase wayAnswer markAnswer placeAnswer thereAnswer roomAnswer orderAnswer standing.recordAnswer takenAs takenOf cutFrom cut collectedFrom collectedOf loopsFrom moveAt sum bit weightOf from gather startOf firstOf through ways drift base greater step chain wholeSum power limit front formThrough firstNot verdict answerOf
+unfolding worked fourRounds rising looped both withRecord twelveRounds bytesOf lowest contentFrom negative alone leading digits fieldAt recordOf sumOver kindIn lastBelow shapeOf ruleAt lowestFault rangeAnswer extraAnswer missingAnswer formAnswer fieldsAnswer endedHead headOf perCounter stateOf guardOf moveOf formOf sentenceOf markOf placeOf emptyCase wayAnswer markAnswer placeAnswer thereAnswer roomAnswer orderAnswer standing.recordAnswer takenAs takenOf cutFrom cut collectedFrom collectedOf loopsFrom moveAt sum bit weightOf from gather startOf firstOf through ways drift base greater step chain wholeSum power limit front formThrough firstNot verdict answerOf
 worked-answers = refl
 
 -- the meaning says of each file what the table gives
@@ -230,5 +230,5 @@ pub twelve-run : map {B = Spot × Way × ℤ} (λ m. (spot (twelve .places) m, w
     ∷ (spotAt 2 1 0, way 2 true, pos 1250)
     ∷ (spotAt 2 0 1, way 3 false, pos 0)
     ∷ []
-unfolding twelveRounds bytesOf cutFrom cut rowsOf contentOf negative alone leading digits fieldAt recordOf perCounter stateOf guardOf moveOf formOf sentenceOf markOf placeOf startOf spot next countersAt moveAt
+unfolding twelveRounds bytesOf cutFrom cut rowsOf contentFrom negative alone leading digits fieldAt recordOf perCounter stateOf guardOf moveOf formOf sentenceOf markOf placeOf startOf spot next countersAt moveAt
 twelve-run = refl

@@ -62,16 +62,16 @@ module _ (n : Counts) where
   good-clear s (content.Number z) e =
       let g = good-parts s (content.Number z) e in
       record { spelled = refl; filled = refl; allowed = refl; inside = g .0; there = g .1 .0 }
-  good-clear s content.Bad e = absurd (false≢true (good-parts s content.Bad e .1 .1))
+  good-clear s (content.Bad i) e = absurd (false≢true (good-parts s (content.Bad i) e .1 .1))
 
   right-clear : (q : Rule) (c : Content) → faultFree n q c ≡ true → Clear n q c
   right-clear Blank content.Blank e = record { spelled = refl; filled = refl; allowed = refl; inside = refl; there = refl }
   right-clear Blank (content.Number z) e = absurd (false≢true e)
-  right-clear Blank content.Bad e = absurd (false≢true e)
+  right-clear Blank (content.Bad i) e = absurd (false≢true e)
   right-clear (Needed s) c e = good-clear s c e
   right-clear (Optional s) content.Blank e = record { spelled = refl; filled = refl; allowed = refl; inside = refl; there = blank-there n s }
   right-clear (Optional s) (content.Number z) e = good-clear s (content.Number z) e
-  right-clear (Optional s) content.Bad e = good-clear s content.Bad e
+  right-clear (Optional s) (content.Bad i) e = good-clear s (content.Bad i) e
 
 -- a form is a number of field 1
 form-inside : (s : Shape) (r : Record) → outside (ruleAt s 1) (at (r .fields) 1) ≡ false → wrongForm s r ≡ false

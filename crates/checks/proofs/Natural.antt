@@ -27,7 +27,7 @@ positive : (m : ℕ) (c : Content) → 0 < m → leb m (natural c) ≡ atLeast m
 positive m Blank h = lt-leb m 0 h
 positive m (Number (pos n)) h = refl
 positive m (Number (negsuc n)) h = lt-leb m 0 h
-positive m Bad h = lt-leb m 0 h
+positive m (Bad i) h = lt-leb m 0 h
 
 -- a shift by n leaves something of the numbers from 2 ^ n on, and of no other
 shifted : (x n : ℕ) → ltb 0 (x / 2 ^ n) ≡ leb (2 ^ n) x

@@ -27,7 +27,13 @@ use Rattle.checks.specs.declared.Fault.the-variants as fault
 abbrev pub misspelled : Content → Bool
 misspelled content.Blank = false
 misspelled (content.Number z) = false
-misspelled content.Bad = true
+misspelled (content.Bad i) = true
+
+-- which byte of a field is bad, counted from 0; 0 where none is
+abbrev pub badByte : Content → ℕ
+badByte content.Blank = 0
+badByte (content.Number z) = 0
+badByte (content.Bad i) = i
 
 -- needed and blank
 abbrev pub missing : Rule → Content → Bool
@@ -45,7 +51,7 @@ extra (Optional s) c = false
 abbrev pub beyond : Range → Content → Bool
 beyond r content.Blank = false
 beyond r (content.Number z) = ltZ z (r .low) || ltZ (r .high) z
-beyond r content.Bad = false
+beyond r (content.Bad i) = false
 
 -- a number outside the range of its rule
 abbrev pub outside : Rule → Content → Bool
@@ -57,7 +63,7 @@ outside (Optional s) c = beyond (rangeOf s) c
 abbrev pub atLeast : ℕ → Content → Bool
 atLeast m content.Blank = false
 atLeast m (content.Number z) = leZ (pos m) z
-atLeast m content.Bad = false
+atLeast m (content.Bad i) = false
 
 -- a reference to an item that is not there, or a set with a mark at or above the number of sentences
 abbrev pub dangling : Counts → Sort → Content → Bool

@@ -5,7 +5,7 @@ use Prim.Native.Nat.{ℕ, _-_}
 use lib.Dec.{eqb, leb}
 use lib.ListN.{length, getD}
 use Rattle.record.specs.declared.Record.{Record}
-use Rattle.record.specs.Layout.{fields, at, recordLength, lineFeed}
+use Rattle.record.specs.Layout.{fields, at, byteIn, recordLength, lineFeed}
 use Rattle.kinds.specs.declared.Kind.the-variants.{Sentence}
 use Rattle.kinds.specs.declared.Letter.{Letter}
 use Rattle.kinds.specs.declared.Letter.the-variants.{Names, Unknown}
@@ -18,7 +18,7 @@ use Rattle.answers.specs.declared.Answer.the-variants as answer
 use Rattle.checks.specs.declared.Fault.the-variants as fault
 use Rattle.checks.specs.declared.Head.{Head}
 use Rattle.checks.specs.declared.Head.the-variants.{Of, Refused}
-use Rattle.checks.specs.Faults.{outside, lowestFault}
+use Rattle.checks.specs.Faults.{badByte, outside, lowestFault}
 
 -- the answer where the lowest field with a fault is f, and the answer where there is none
 abbrev pub orElse : ℕ → (ℕ → Answer) → Answer → Answer
@@ -44,9 +44,13 @@ missingAnswer s r = orElse (lowestFault fault.Missing s r) answer.Misfilled (ext
 unfoldable pub formAnswer : Shape → Record → Answer
 formAnswer s r = cond (wrongForm s r) (answer.OutOfRange 1) (missingAnswer s r)
 
+-- the place in the record of the bad byte of field f
+abbrev pub badPlace : Record → ℕ → ℕ
+badPlace r f = byteIn f (badByte (at (r .fields) f))
+
 -- 14
 unfoldable pub fieldsAnswer : Shape → Record → Answer
-fieldsAnswer s r = orElse (lowestFault fault.Misspelled s r) answer.Misspelled (formAnswer s r)
+fieldsAnswer s r = orElse (lowestFault fault.Misspelled s r) (λ f. answer.Misspelled (badPlace r f)) (formAnswer s r)
 
 -- 13
 abbrev pub namedHead : Letter → Head

@@ -1,9 +1,10 @@
 // What can be wrong with a field, and the results that come from the input (11 to 16).
 ghost use mathlib.Core.Path.{_≡_};
-ghost use Prim.Native.Nat.{_^_};
+ghost use Prim.Native.Nat.{_^_, _≤_};
+ghost use Rattle.record.specs.Layout.{fields};
 ghost use Rattle.kinds.specs.Contents.{isBlank};
-ghost use Rattle.checks.specs.Faults.{misspelled, missing, extra, beyond, outside, atLeast, dangling, notThere, hasFault, lowestFault, good, faultFree, faultless};
-ghost use Rattle.checks.specs.Input.{wrongForm, fieldsAnswer, headOf};
+ghost use Rattle.checks.specs.Faults.{misspelled, badByte, missing, extra, beyond, outside, atLeast, dangling, notThere, hasFault, lowestFault, good, faultFree, faultless};
+ghost use Rattle.checks.specs.Input.{wrongForm, badPlace, fieldsAnswer, headOf};
 use answers::Answer;
 use kinds::Counts;
 use kinds::Kind;
@@ -37,7 +38,18 @@ fn is_misspelled(content: Content) -> bool
     match content {
         Content::Blank => false,
         Content::Number(_) => false,
-        Content::Bad => true,
+        Content::Bad(_) => true,
+    }
+}
+
+// Which byte of a field is bad, counted from 0; 0 where none is.
+fn bad_byte(content: Content) -> u8
+    ensures { λ r. ⌜ r ≡ badByte content ⌝ }
+{
+    match content {
+        Content::Blank => 0,
+        Content::Number(_) => 0,
+        Content::Bad(byte) => byte,
     }
 }
 
@@ -48,7 +60,7 @@ pub fn is_blank(content: Content) -> bool
     match content {
         Content::Blank => true,
         Content::Number(_) => false,
-        Content::Bad => false,
+        Content::Bad(_) => false,
     }
 }
 
@@ -86,7 +98,7 @@ fn is_beyond(range: Range, content: Content) -> bool
             }
             range.high < x
         }
-        Content::Bad => false,
+        Content::Bad(_) => false,
     }
 }
 
@@ -113,7 +125,7 @@ fn is_at_least(m: usize, content: Content) -> bool
             }
             m <= x as usize
         }
-        Content::Bad => false,
+        Content::Bad(_) => false,
     }
 }
 
@@ -180,6 +192,18 @@ pub fn lowest_fault(fault: Fault, shape: Shape, row: Record) -> usize
     k
 }
 
+// The place in the record of the bad byte of field k, counted from 1.
+fn bad_place(row: Record, k: usize) -> u16
+    requires { ⌜ (1 ≤ k) × (k ≤ fields) ⌝ }
+    ensures { λ r. ⌜ r ≡ badPlace row k ⌝ }
+{
+    let fields = row.fields;
+    let field = fields[k - 1];
+    let content = field.content;
+    let start = 1 + (k - 1) * Record::WIDTH;
+    start as u16 + bad_byte(content) as u16
+}
+
 // A sentence whose form is filled, but is none.
 fn has_wrong_form(shape: Shape, row: Record) -> bool
     ensures { λ r. ⌜ r ≡ wrongForm shape row ⌝ }
@@ -201,7 +225,7 @@ pub fn fields_answer(shape: Shape, row: Record) -> Answer
 {
     let bad = lowest_fault(Fault::Misspelled, shape, row);
     if bad <= Record::FIELDS {
-        return Answer::Misspelled(bad as u8);
+        return Answer::Misspelled(bad_place(row, bad));
     }
     if has_wrong_form(shape, row) {
         return Answer::OutOfRange(1);

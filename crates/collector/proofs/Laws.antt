@@ -19,7 +19,7 @@ use Rattle.checks.specs.declared.Head.{Head}
 use Rattle.checks.specs.declared.Head.the-variants.{Of, Refused}
 use Rattle.answers.specs.declared.Answer.{Answer}
 use Rattle.answers.specs.declared.Answer.the-variants.{Taken, NotARecord, NoLineFeed}
-use Rattle.answers.specs.Answers.{numberOf, fieldOf, testOrder, turnOf, isTaken}
+use Rattle.answers.specs.Answers.{numberOf, thirdOf, testOrder, turnOf, isTaken}
 use Rattle.answers.specs.Laws.{in-order, taken-is}
 use Rattle.checks.specs.Input.{namedHead, endedHead, headOf}
 use Rattle.standing.specs.Standing.{recordAnswer}
@@ -134,7 +134,7 @@ cut-one bs h =
 
 is-so : (a : Answer) → isTaken a ≡ true → Taken ≡ a
 unfolding lowest
-is-so a h = sym (ap (λ n. getD (testOrder (fieldOf a)) (turnOf n) Taken) (eqb-true (numberOf a) 0 (sym (taken-is a) ∙ h))) ∙ in-order a
+is-so a h = sym (ap (λ n. getD (testOrder (thirdOf a)) (turnOf n) Taken) (eqb-true (numberOf a) 0 (sym (taken-is a) ∙ h))) ∙ in-order a
 
 abbrev answered : Collected → Result
 answered r = record { case = r .case; answer = r .answer }

@@ -51,7 +51,7 @@ wordOf c = natural c % 65536
 abbrev pub integerOf : Content → ℤ
 integerOf Blank = pos 0
 integerOf (Number z) = z
-integerOf Bad = pos 0
+integerOf (Bad i) = pos 0
 
 -- a number that 16 bits hold, and 0 for any other
 abbrev pub shortOf : ℤ → ℤ
@@ -65,13 +65,13 @@ perCounter r k = record { at = tab counters 0 (λ (j : ℕ). shortOf (integerOf 
 abbrev pub refOf : Content → Ref
 refOf Blank = ref.None
 refOf (Number z) = ref.At (byteOf (Number z))
-refOf Bad = ref.None
+refOf (Bad i) = ref.None
 
 -- a term, of its coefficient and its sentence
 abbrev pub termOf : Content → Content → Term
 termOf Blank s = term.None
 termOf (Number z) s = term.Some (shortOf z) (byteOf s)
-termOf Bad s = term.None
+termOf (Bad i) s = term.None
 
 -- a state: its propositions
 unfoldable pub stateOf : List Field → State
@@ -117,8 +117,8 @@ unfoldable pub markOf : Content → Content → Content → LoopMark
 markOf Blank n b = mark.None
 markOf (Number z) Blank b = mark.Endless (byteOf (Number z)) (byteOf b)
 markOf (Number z) (Number n) b = mark.Counted (byteOf (Number z)) (natural (Number n)) (byteOf b)
-markOf (Number z) Bad b = mark.None
-markOf Bad n b = mark.None
+markOf (Number z) (Bad i) b = mark.None
+markOf (Bad i) n b = mark.None
 
 -- a place: its state, the move into it, its marks, its loop mark
 unfoldable pub placeOf : List Field → Place

@@ -109,7 +109,7 @@ fn integer_of(content: Content) -> i32
     match content {
         Content::Blank => 0,
         Content::Number(x) => x,
-        Content::Bad => 0,
+        Content::Bad(_) => 0,
     }
 }
 
@@ -151,7 +151,7 @@ fn ref_of(content: Content) -> Ref
     match content {
         Content::Blank => Ref::None,
         Content::Number(_) => Ref::At(byte_of(content)),
-        Content::Bad => Ref::None,
+        Content::Bad(_) => Ref::None,
     }
 }
 
@@ -165,7 +165,7 @@ fn term_of(coefficient: Content, sentence: Content) -> Term
             coefficient: short_of(coefficient),
             sentence: byte_of(sentence),
         },
-        Content::Bad => Term::None,
+        Content::Bad(_) => Term::None,
     }
 }
 
@@ -270,9 +270,9 @@ fn mark_of(length: Content, rounds: Content, back: Content) -> LoopMark
                 rounds: n,
                 back: b,
             },
-            Content::Bad => LoopMark::None,
+            Content::Bad(_) => LoopMark::None,
         },
-        Content::Bad => LoopMark::None,
+        Content::Bad(_) => LoopMark::None,
     }
 }
 

@@ -10,13 +10,13 @@ use Rattle.record.specs.declared.Content.the-variants.{Blank, Number, Bad}
 abbrev pub isBlank : Content → Bool
 isBlank Blank = true
 isBlank (Number z) = false
-isBlank Bad = false
+isBlank (Bad i) = false
 
 -- 1 for a field that is filled, 0 for any other
 abbrev pub flagOf : Content → ℕ
 flagOf Blank = 0
 flagOf (Number z) = 1
-flagOf Bad = 0
+flagOf (Bad i) = 0
 
 -- whether a field is filled
 abbrev pub isNumber : Content → Bool
@@ -27,4 +27,4 @@ abbrev pub natural : Content → ℕ
 natural Blank = 0
 natural (Number (pos n)) = n
 natural (Number (negsuc n)) = 0
-natural Bad = 0
+natural (Bad i) = 0

@@ -139,7 +139,7 @@ pub fn flag_of(content: Content) -> u32
     match content {
         Content::Blank => 0,
         Content::Number(_) => 1,
-        Content::Bad => 0,
+        Content::Bad(_) => 0,
     }
 }
 
@@ -157,6 +157,6 @@ pub fn natural_of(content: Content) -> u32
     match content {
         Content::Blank => 0,
         Content::Number(x) => { if x < 0 { 0 } else { x as u32 } }
-        Content::Bad => 0,
+        Content::Bad(_) => 0,
     }
 }

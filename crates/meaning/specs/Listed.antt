@@ -1,8 +1,8 @@
 -- The results that document 01 lists, each with its second and third number in range; the numbers themselves stand in the crate answers.
 use mathlib.Core.Path.{_≡_}
 use mathlib.Core.Logic.{_⊎_}
-use Prim.Native.Nat.{ℕ, _≤_, _<_}
-use Rattle.record.specs.Layout.{fields}
+use Prim.Native.Nat.{ℕ, _*_, _≤_, _<_}
+use Rattle.record.specs.Layout.{width, fields}
 use Rattle.kinds.specs.declared.Kind.the-variants as kind
 use Rattle.kinds.specs.Kinds.{overKinds}
 use Rattle.items.specs.Lists.{roomOf}
@@ -21,13 +21,17 @@ room = overKinds roomOf
 abbrev pub IsField : ℕ → Type 0
 IsField f = (1 ≤ f) × (f ≤ fields)
 
--- a refusal names a field that it may name
+-- p is the place of a byte of a field, in its record
+abbrev pub IsFieldByte : ℕ → Type 0
+IsFieldByte p = (1 ≤ p) × (p ≤ fields * width)
+
+-- a refusal names a field, or a byte of one, that it may name
 abbrev pub FieldFits : Answer → Type 0
 FieldFits Taken = ⊥
 FieldFits NotARecord = Unit {0}
 FieldFits NoLineFeed = Unit {0}
 FieldFits NoSuchKind = Unit {0}
-FieldFits (Misspelled f) = IsField f
+FieldFits (Misspelled p) = IsFieldByte p
 FieldFits (Misfilled f) = IsField f
 FieldFits (OutOfRange f) = IsField f
 FieldFits OutOfOrder = Unit {0}

@@ -10,7 +10,7 @@ use Rattle.record.specs.declared.Content.{Content}
 use Rattle.record.specs.declared.Content.the-variants.{Blank, Number, Bad}
 use Rattle.record.specs.declared.Field.{Field}
 use Rattle.record.specs.declared.Record.{Record}
-use Rattle.record.specs.Layout.{fields, recordOf}
+use Rattle.record.specs.Layout.{fields, recordOf, at}
 use Rattle.kinds.specs.declared.Kind.{Kind}
 use Rattle.kinds.specs.declared.Kind.the-variants.{Place}
 use Rattle.kinds.specs.declared.Counts.{Counts}
@@ -22,7 +22,7 @@ use Rattle.items.specs.Items.{placeOf, markOf}
 use Rattle.answers.specs.Answers.{isTaken}
 use Rattle.checks.specs.declared.Fault.{Fault}
 use Rattle.checks.specs.declared.Fault.the-variants.{Misspelled, Missing, Extra, OutOfRange, NotThere}
-use Rattle.checks.specs.Faults.{beyond, faultAt, lowestFault}
+use Rattle.checks.specs.Faults.{badByte, beyond, hasFault, lowestFault}
 use Rattle.checks.specs.Input.{headOf, rangeAnswer, extraAnswer, missingAnswer, formAnswer, fieldsAnswer}
 use Rattle.rules.specs.Rules.{IsA}
 use Rattle.standing.specs.declared.Loops.{Loops}
@@ -96,33 +96,40 @@ module _ (g : ℕ → Field) where
   rounds z = record { fields = rowWith g (Number z) }
 
   module _ (y z : ℤ) (p : RoundsInRange y) (q : RoundsInRange z) where
-    same-fault : (f : Fault) (k : ℕ) → faultAt f (shapeOf Place (rounds y)) (rounds y) k ≡ faultAt f (shapeOf Place (rounds z)) (rounds z) k
+    -- what is one for both rounds is one for the rows, field by field
+    same-row : {A : Type 0} (t : ℕ → Content → A) → t 5 (Number y) ≡ t 5 (Number z) → (k : ℕ) → t k (at (rounds y .fields) k) ≡ t k (at (rounds z .fields) k)
+    same-row t e zero = refl
+    same-row t e (suc zero) = refl
+    same-row t e (suc (suc zero)) = refl
+    same-row t e (suc (suc (suc zero))) = refl
+    same-row t e (suc (suc (suc (suc zero)))) = refl
+    same-row t e (suc (suc (suc (suc (suc zero))))) = e
+    same-row t e (suc (suc (suc (suc (suc (suc k)))))) = refl
+
+    abbrev fault : Fault → ℕ → Content → Bool
+    fault f k c = hasFault f (ruleAt (shapeOf Place (rounds z)) k) c
+
+    same-fault : (f : Fault) → fault f 5 (Number y) ≡ fault f 5 (Number z)
     unfolding ruleAt shapeOf
-    same-fault f zero = refl
-    same-fault f (suc zero) = refl
-    same-fault f (suc (suc zero)) = refl
-    same-fault f (suc (suc (suc zero))) = refl
-    same-fault f (suc (suc (suc (suc zero)))) = refl
-    same-fault Misspelled (suc (suc (suc (suc (suc zero))))) = refl
-    same-fault Missing (suc (suc (suc (suc (suc zero))))) = refl
-    same-fault Extra (suc (suc (suc (suc (suc zero))))) = refl
-    same-fault OutOfRange (suc (suc (suc (suc (suc zero))))) = p ∙ sym q
-    same-fault (NotThere n) (suc (suc (suc (suc (suc zero))))) = refl
-    same-fault f (suc (suc (suc (suc (suc (suc k)))))) = refl
+    same-fault Misspelled = refl
+    same-fault Missing = refl
+    same-fault Extra = refl
+    same-fault OutOfRange = p ∙ sym q
+    same-fault (NotThere n) = refl
 
     same-lowest : (f : Fault) → lowestFault f (shapeOf Place (rounds y)) (rounds y) ≡ lowestFault f (shapeOf Place (rounds z)) (rounds z)
-    unfolding lowestFault
-    same-lowest f = ap (lowest fields 1) (fun-ext (same-fault f))
+    unfolding lowestFault shapeOf
+    same-lowest f = ap (lowest fields 1) (fun-ext (same-row (fault f) (same-fault f)))
 
     same-answer : (n : Counts) (l : Loops) → recordAnswer n l Place (rounds y) ≡ recordAnswer n l Place (rounds z)
     unfolding recordAnswer fieldsAnswer formAnswer missingAnswer extraAnswer rangeAnswer orderAnswer roomAnswer thereAnswer placeAnswer markAnswer wayAnswer shapeOf
-    same-answer n l = rw (same-lowest Misspelled, same-lowest Missing, same-lowest Extra, same-lowest OutOfRange, same-lowest (NotThere n))
+    same-answer n l = rw (same-lowest Misspelled, same-row (λ k. badByte) refl, same-lowest Missing, same-lowest Extra, same-lowest OutOfRange, same-lowest (NotThere n))
 
     same-loops : (l : Loops) (n : ℕ) (c b : Content) → loopsAfter l n (markOf c (Number y) b) ≡ loopsAfter l n (markOf c (Number z) b)
     unfolding markOf
     same-loops l n Blank b = refl
     same-loops l n (Number x) b = refl
-    same-loops l n Bad b = refl
+    same-loops l n (Bad i) b = refl
 
     alike-rounds : AlikeAs Place (rounds y) (rounds z)
     unfolding placeOf

@@ -86,13 +86,13 @@ counted : (c b : Content) (z : ℤ) → isBlank c ≡ false → misspelled c ≡
 unfolding markOf
 counted Blank b z p q = absurd (true≢false p)
 counted (Number x) b z p q = (byteOf (Number x), byteOf b, refl)
-counted Bad b z p q = absurd (true≢false q)
+counted (Bad i) b z p q = absurd (true≢false q)
 
 mark-with : (c b : Content) (y : ℤ) (n : ℕ) → markWith n (markOf c (Number y) b) ≡ markOf c (Number (pos n)) b
 unfolding markOf
 mark-with Blank b y n = refl
 mark-with (Number x) b y n = refl
-mark-with Bad b y n = refl
+mark-with (Bad i) b y n = refl
 
 module _ (g : ℕ → Field) where
   place-with : (y : ℤ) (n : ℕ) → placeWith n (placeOf (rowWith g (Number y))) ≡ placeOf (rowWith g (Number (pos n)))

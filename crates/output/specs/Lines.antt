@@ -39,7 +39,7 @@ parted x {s = s} {t = t} h (also {x = a} {l = k} p v) (also {x = b} {l = l} q w)
 numeral-apart : (m n : ℕ) → numeral m ≡ numeral n → m ≡ n
 unfolding token
 numeral-apart m n e =
-    let q : Number (pos m) ≡ Number (pos n) = sym (token-reads (pos m)) ∙ ap contentOf e ∙ token-reads (pos n) in
+    let q : Number (pos m) ≡ Number (pos n) = sym (token-reads (pos m) 0) ∙ ap contentOf e ∙ token-reads (pos n) 0 in
     cc
 
 -- ---- the line

@@ -1,6 +1,6 @@
 -- Where a record has its letter, its fields and its line feed, and how a file is cut into records.
 use mathlib.Core.List.{List, [], _∷_}
-use Prim.Native.Nat.{ℕ, zero, suc, _+_, _*_}
+use Prim.Native.Nat.{ℕ, zero, suc, _+_, _-_, _*_}
 use lib.ListN.{take, drop, length}
 use Rattle.laws.specs.Lists.{nth}
 use Rattle.laws.specs.Tab.{tab}
@@ -30,6 +30,10 @@ lineFeed = 10
 abbrev pub bytesAt : List ℕ → ℕ → List ℕ
 bytesAt bs zero = []
 bytesAt bs (suc k) = take width (drop (1 + k * width) bs)
+
+-- the place in a record of byte k of field f: the letter is byte 0 of the record, fields are counted from 1 and the bytes of a field from 0
+abbrev pub byteIn : ℕ → ℕ → ℕ
+byteIn f k = 1 + (f - 1) * width + k
 
 -- field f, counted from 1
 unfoldable pub fieldAt : List ℕ → ℕ → Field

@@ -1,12 +1,12 @@
 -- The one spelling of a number in a field: as many spaces as are left, the sign, the digits.
 use mathlib.Core.Path.{_≡_}
-use mathlib.Core.Logic.{_↔_}
+use mathlib.Core.Logic.{_↔_, _⊎_}
 use mathlib.Core.List.{List, [], _∷_, _++_}
 use mathlib.Core.Bool.{cond}
-use Prim.Native.Nat.{ℕ, zero, suc, _-_, _/_, _%_, _^_, _<_}
+use Prim.Native.Nat.{ℕ, zero, suc, _+_, _-_, _/_, _%_, _^_, _<_}
 use lib.Dec.{ltb}
 use lib.IntN.{ℤ, pos, negsuc}
-use lib.ListN.{length, replicate}
+use lib.ListN.{length, replicate, take}
 use Rattle.record.specs.declared.Content.the-variants.{Bad, Blank, Number}
 use Rattle.record.specs.declared.Content.{Content}
 use Rattle.record.specs.Spelling.{space, minus, digit}
@@ -41,8 +41,20 @@ Spellable (negsuc n) = suc n < 10 ^ (width - 1)
 abbrev pub IsSpelling : List ℕ → ℤ → Type 0
 IsSpelling bs z = (bs ≡ spell z) × Spellable z
 
--- what the bytes of a field say: they are blank where they are spaces, a number where they are its spelling, and bad where they are neither
+-- the bytes of a field are well-formed: blank, or the spelling of a number
+abbrev pub WellFormed : List ℕ → Type 0
+WellFormed bs = (bs ≡ replicate width space) ⊎ ((z : ℤ) × IsSpelling bs z)
+
+-- bytes start a well-formed field: with some more after them they are one
+abbrev pub Starts : List ℕ → Type 0
+Starts bs = (more : List ℕ) × WellFormed (bs ++ more)
+
+-- byte k of a field, counted from 0, is its bad byte: the k bytes before it start a well-formed field, and with it they start none
+abbrev pub IsBadByte : List ℕ → ℕ → Type 0
+IsBadByte bs k = Starts (take k bs) × (Starts (take (k + 1) bs) → ⊥)
+
+-- what the bytes of a field say: they are blank where they are spaces, a number where they are its spelling, and bad at the byte that is their bad one
 pub record ReadAs (bs : List ℕ) (c : Content) : Type 0 where
   pub blank : (c ≡ Blank) ↔ (bs ≡ replicate width space)
   pub number : (z : ℤ) → (c ≡ Number z) ↔ IsSpelling bs z
-  pub bad : (c ≡ Bad) ↔ ((bs ≡ replicate width space → ⊥) × ((z : ℤ) → IsSpelling bs z → ⊥))
+  pub bad : (k : ℕ) → (c ≡ Bad k) ↔ IsBadByte bs k

@@ -5,11 +5,11 @@ ghost use lib.ListN.{length, drop, getD};
 ghost use Rattle.record.specs.Spelling.{contentOf, leading, digits};
 ghost use Rattle.record.specs.Layout.{width, recordLength, recordOf};
 
-// What a field says.
+// What a field says; where it is neither blank nor a number, which of its bytes is bad, counted from 0.
 pub enum Content {
     Blank,
     Number(i32),
-    Bad,
+    Bad(u8),
 }
 
 // A field of a record. (An array of enums can be no field of a struct, so a field is a struct that holds one.)
@@ -70,18 +70,18 @@ fn read_field(part: &[u8]) -> Content
         return Content::Blank;
     }
     let b = part[i];
+    let j = i + 1;
     if b == b'-' {
-        let j = i + 1;
         if j == part.len() {
-            return Content::Bad;
+            return Content::Bad(i as u8);
         }
         return read_number(part, j, true);
     }
     if b == b'0' {
-        if i + 1 == part.len() {
+        if j == part.len() {
             return Content::Number(0);
         }
-        return Content::Bad;
+        return Content::Bad(i as u8);
     }
     read_number(part, i, false)
 }
@@ -89,14 +89,14 @@ fn read_field(part: &[u8]) -> Content
 // Reads a number other than 0 whose first digit is byte i, with a minus before it or not.
 fn read_number(part: &[u8], i: usize, neg: bool) -> Content
     requires { ⌜ (i < length (now part)) × (length (now part) ≡ width) ⌝ }
-    ensures { λ r. ⌜ r ≡ leading neg (getD (now (part .entry)) i 0) (drop (i + 1) (now (part .entry))) ⌝ }
+    ensures { λ r. ⌜ r ≡ leading neg i (getD (now (part .entry)) i 0) (drop (i + 1) (now (part .entry))) ⌝ }
 {
     let b = part[i];
     if b < b'1' {
-        return Content::Bad;
+        return Content::Bad(i as u8);
     }
     if b'9' < b {
-        return Content::Bad;
+        return Content::Bad(i as u8);
     }
     read_digits(part, i + 1, neg, (b - b'0') as u32)
 }
@@ -104,7 +104,7 @@ fn read_number(part: &[u8], i: usize, neg: bool) -> Content
 // Reads the digits from byte `from` on, after those of `first`.
 fn read_digits(part: &[u8], from: usize, neg: bool, first: u32) -> Content
     requires { ⌜ (from ≤ length (now part)) × ((length (now part) ≡ width) × (first < 10 ^ from)) ⌝ }
-    ensures { λ r. ⌜ r ≡ digits neg first (drop from (now (part .entry))) ⌝ }
+    ensures { λ r. ⌜ r ≡ digits neg first from (drop from (now (part .entry))) ⌝ }
 {
     let mut n = first;
     let mut i = from;
@@ -120,7 +120,7 @@ fn read_digits(part: &[u8], from: usize, neg: bool, first: u32) -> Content
         i += 1;
     }
     if i < part.len() {
-        return Content::Bad;
+        return Content::Bad(i as u8);
     }
     let x = n as i32;
     if neg {

@@ -6,13 +6,14 @@ use Prim.Native.Nat.{ℕ, zero, suc, _+_, _-_, _*_, _/_, _%_, _<_, _≤_, _^_}
 use native.Mathlib.Nat.{pow-suc, one-le-pow, add-sub-cancel-left}
 use native.Mathlib.Omega.{arith}
 use lib.Dec.{ltb, leb, lit<}
-use lib.ListN.{length, length-append}
+use lib.ListN.{length, length-append, replicate, length-replicate}
 use borrow.Author.Tests.{ltb-true, ltb-false, lt-ltb, le-ltb, leb-true, le-leb}
 use Rattle.laws.specs.Tests.{cond-by}
 use Rattle.record.specs.declared.Content.{Content}
 use Rattle.record.specs.declared.Content.the-variants.{Number, Bad}
 use Rattle.record.specs.Spelling.{digit, digitFrom, signed, digits, leading}
 use Rattle.record.specs.Spell.{lastDigits, numeral}
+use Rattle.record_laws.specs.Stops.{IsFine, Stops, stops-here, stops-later}
 
 -- ---- the digits as they are written
 
@@ -81,20 +82,35 @@ numeral-small =
 digit-taken : (lo d : ℕ) → lo ≤ d → d < 10 → digitFrom lo (digit d) ≡ true
 digit-taken lo d l h = simp (le-leb (digit lo) (digit d) (omega arith), le-leb (digit d) (digit 9) (omega arith))
 
-digits-one : (s : Bool) (n d : ℕ) (bs : List ℕ) → d < 10 → digits s n (digit d ∷ bs) ≡ digits s (10 * n + d) bs
+digits-one : (s : Bool) (n i d : ℕ) (bs : List ℕ) → d < 10 → digits s n i (digit d ∷ bs) ≡ digits s (10 * n + d) (i + 1) bs
 unfolding digits
-digits-one s n d bs h = simp (digit-taken 0 d (omega arith) h, add-sub-cancel-left (digit 0) d)
+digits-one s n i d bs h = simp (digit-taken 0 d (omega arith) h, add-sub-cancel-left (digit 0) d)
 
-pub leading-one : (s : Bool) (d : ℕ) (bs : List ℕ) → 0 < d → d < 10 → leading s (digit d) bs ≡ digits s d bs
+pub leading-one : (s : Bool) (i d : ℕ) (bs : List ℕ) → 0 < d → d < 10 → leading s i (digit d) bs ≡ digits s d (i + 1) bs
 unfolding leading
-leading-one s d bs p h = simp (digit-taken 1 d p h, add-sub-cancel-left (digit 0) d)
+leading-one s i d bs p h = simp (digit-taken 1 d p h, add-sub-cancel-left (digit 0) d)
 
 -- a reader that takes a first digit above 0 takes all the digits of n
-pub reads-numeral : (read : List ℕ → Content) (s : Bool) → ((d : ℕ) (bs : List ℕ) → 0 < d → d < 10 → read (digit d ∷ bs) ≡ digits s d bs) →
-    (n : ℕ) (bs : List ℕ) → 0 < n → read (numeral n ++ bs) ≡ digits s n bs
-reads-numeral read s first =
-    numeral-by (λ n ds. (bs : List ℕ) → 0 < n → read (ds ++ bs) ≡ digits s n bs) (λ d l bs p. first d bs p l)
-    (λ n d ds p l e bs _. ap read (append-assoc ds (digit d ∷ []) bs) ∙ e (digit d ∷ bs) p ∙ digits-one s n d bs l)
+pub reads-numeral : (read : List ℕ → Content) (s : Bool) (i : ℕ) → ((d : ℕ) (bs : List ℕ) → 0 < d → d < 10 → read (digit d ∷ bs) ≡ digits s d (i + 1) bs) →
+    (n : ℕ) (bs : List ℕ) → 0 < n → read (numeral n ++ bs) ≡ digits s n (i + length (numeral n)) bs
+reads-numeral read s i first =
+    numeral-by (λ n ds. (bs : List ℕ) → 0 < n → read (ds ++ bs) ≡ digits s n (i + length ds) bs) (λ d l bs p. first d bs p l)
+    (λ n d ds p l e bs _.
+    let q : i + length ds + 1 ≡ i + length (ds ++ (digit d ∷ [])) = omega (arith, length-append ds (digit d ∷ [])) in
+    ap read (append-assoc ds (digit d ∷ []) bs)
+    ∙ e (digit d ∷ bs) p
+    ∙ digits-one s n (i + length ds) d bs l
+    ∙ ap (λ k. digits s (10 * n + d) k bs) q)
+
+-- after a digit zeros may follow
+zeros-fine : (s : Bool) (k n i : ℕ) → IsFine (digits s n i (replicate k (digit 0)))
+unfolding digits
+zeros-fine s zero n i = tt
+zeros-fine s (suc k) n i = zeros-fine s k (10 * n + 0) (i + 1)
+
+pub leading-fine : (s : Bool) (i k : ℕ) → IsFine (leading s i (digit 1) (replicate k (digit 0)))
+unfolding leading
+leading-fine s i k = zeros-fine s k 1 (i + 1)
 
 -- ---- read, so written
 
@@ -103,32 +119,45 @@ digit-in d b e =
     let p = and-eq-true-iff (leb (digit d) b) (leb b (digit 9)) .0 e in
     (leb-true (digit d) b (p .0), leb-true b (digit 9) (p .1))
 
--- what bytes after the digits of n say: Bad, or a number that has them after those of n
-digits-by : (P : Content → Type 0) → P Bad → (s : Bool) (n : ℕ) (bs : List ℕ) → 0 < n →
-    ((m : ℕ) → 0 < m → numeral m ≡ numeral n ++ bs → P (Number (signed s m))) → P (digits s n bs)
-unfolding digits
-digits-by P bad s n [] p good = good n p (sym (append-nil (numeral n)))
-digits-by P bad s n (b ∷ bs) p good =
-    cond-by P (digitFrom 0 b)
-    (λ e.
-    let h : (digit 0 ≤ b) × (b ≤ digit 9) = digit-in 0 b e in
-    let q : digit (b - digit 0) ≡ b = omega arith in
-    digits-by P bad s (10 * n + (b - digit 0)) bs (omega arith) (λ m o t. good m o
-    (t
-    ∙ ap (λ xs. xs ++ bs) (numeral-more n (b - digit 0) p (omega arith))
-    ∙ append-assoc (numeral n) (digit (b - digit 0) ∷ []) bs
-    ∙ ap (λ c. numeral n ++ (c ∷ bs)) q)))
-    (λ _. bad)
+module _ (P : Content → Type 0) (s : Bool) where
+  -- P is true wherever reading from byte i on stops
+  abbrev pub AtStop : (List ℕ → Content) → ℕ → List ℕ → Type 0
+  AtStop read i bs = (j k : ℕ) → k ≡ i + j → Stops read bs j k → P (Bad k)
 
--- what bytes from a first digit above 0 on say: Bad, or the number that has them for its digits
-pub leading-by : (P : Content → Type 0) → P Bad → (s : Bool) (b : ℕ) (bs : List ℕ) →
-    ((m : ℕ) → 0 < m → numeral m ≡ b ∷ bs → P (Number (signed s m))) → P (leading s b bs)
-unfolding leading
-leading-by P bad s b bs good =
-    cond-by P (digitFrom 1 b)
-    (λ e.
-    let h : (digit 1 ≤ b) × (b ≤ digit 9) = digit-in 1 b e in
-    let q : digit (b - digit 0) ≡ b = omega arith in
-    digits-by P bad s (b - digit 0) bs (omega arith)
-    (λ m o t. good m o (t ∙ ap (λ xs. xs ++ bs) (numeral-one (b - digit 0) (omega arith)) ∙ ap (λ c. c ∷ bs) q)))
-    (λ _. bad)
+  -- what bytes after the digits of n say: they stop, or say a number that has them after those of n
+  digits-by : (n i : ℕ) (bs : List ℕ) → 0 < n → AtStop (digits s n i) i bs →
+      ((m : ℕ) → 0 < m → numeral m ≡ numeral n ++ bs → P (Number (signed s m))) → P (digits s n i bs)
+  unfolding digits
+  digits-by n i [] p bad good = good n p (sym (append-nil (numeral n)))
+  digits-by n i (b ∷ bs) p bad good =
+      cond-by P (digitFrom 0 b)
+      (λ e.
+      let h : (digit 0 ≤ b) × (b ≤ digit 9) = digit-in 0 b e in
+      let q : digit (b - digit 0) ≡ b = omega arith in
+      let d = b - digit 0 in
+      digits-by (10 * n + d) (i + 1) bs (omega arith)
+      (λ j k r t. bad (suc j) k (omega arith) (stops-later (digits s n i) (digits s (10 * n + d) (i + 1)) b (λ xs. simp e) t))
+      (λ m o t. good m o
+      (t
+      ∙ ap (λ xs. xs ++ bs) (numeral-more n d p (omega arith))
+      ∙ append-assoc (numeral n) (digit d ∷ []) bs
+      ∙ ap (λ c. numeral n ++ (c ∷ bs)) q)))
+      (λ e. bad 0 i (omega arith)
+      (stops-here (digits s n i) b i bs (replicate (suc (length bs)) (digit 0)) (length-replicate (suc (length bs)) (digit 0)) (zeros-fine s (suc (length bs)) n i)
+      (λ rest l. simp e)))
+
+  -- what bytes from a first digit above 0 on say, byte i: they stop, or say the number that has them for its digits; `more` can stand in their place
+  pub leading-by : (read : List ℕ → Content) (i b : ℕ) (bs more : List ℕ) → ((xs : List ℕ) → read (b ∷ xs) ≡ leading s i b xs) →
+      length more ≡ length (b ∷ bs) → IsFine (read more) → AtStop read i (b ∷ bs) →
+      ((m : ℕ) → 0 < m → numeral m ≡ b ∷ bs → P (Number (signed s m))) → P (leading s i b bs)
+  unfolding leading
+  leading-by read i b bs more r l f bad good =
+      cond-by P (digitFrom 1 b)
+      (λ e.
+      let h : (digit 1 ≤ b) × (b ≤ digit 9) = digit-in 1 b e in
+      let q : digit (b - digit 0) ≡ b = omega arith in
+      let d = b - digit 0 in
+      digits-by d (i + 1) bs (omega arith)
+      (λ j k o t. bad (suc j) k (omega arith) (stops-later read (digits s d (i + 1)) b (λ xs. r xs ∙ simp e) t))
+      (λ m o t. good m o (t ∙ ap (λ xs. xs ++ bs) (numeral-one d (omega arith)) ∙ ap (λ c. c ∷ bs) q)))
+      (λ e. bad 0 i (omega arith) (stops-here read b i bs more l f (λ rest _. r rest ∙ simp e)))

@@ -14,7 +14,7 @@ use Rattle.record.specs.declared.Content.the-variants.{Blank, Number, Bad}
 use Rattle.record.specs.Spelling.{space, contentOf}
 use Rattle.record.specs.Spell.{token, spell, Spellable, ReadAs, IsSpelling}
 use Rattle.record.specs.Layout.{width}
-use Rattle.record_laws.specs.Reading.{token-fits, token-reads, after-spaces, SaysAll, says-all}
+use Rattle.record_laws.specs.Reading.{token-fits, number-reads, SaysAll, says-all}
 
 -- each number of the range has a spelling of seven bytes
 pub spell-length : (z : ℤ) → Spellable z → length (spell z) ≡ width
@@ -25,52 +25,26 @@ spell-length z h =
 -- a number's spelling is read as the number
 pub spell-reads : (z : ℤ) → contentOf (spell z) ≡ Number z
 unfolding spell
-spell-reads z = after-spaces (width - length (token z)) (token z) ∙ token-reads z
+spell-reads z = number-reads (width - length (token z)) 0 z
 
 -- seven bytes that are read as a number are the spelling of that number: no number is read in part
 pub one-spelling : (bs : List ℕ) (z : ℤ) → length bs ≡ width → contentOf bs ≡ Number z → (bs ≡ spell z) × Spellable z
 unfolding spell
 one-spelling bs z l e =
-    let (k, t) = subst (SaysAll bs) e (says-all bs) in
+    let (k, t) = subst (SaysAll 0 bs) e (says-all 0 bs) in
     let n : length bs ≡ k + length (token z) = ap length t ∙ length-append (replicate k space) (token z) ∙ ap (λ i. i + length (token z)) (length-replicate k space) in
     let q : k ≡ width - length (token z) = omega arith in
     (t ∙ ap (λ i. replicate i space ++ token z) q, token-fits z .1 (omega arith))
 
--- spaces are blank
-pub spaces-blank : (n : ℕ) → contentOf (replicate n space) ≡ Blank
-unfolding contentOf
-spaces-blank zero = refl
-spaces-blank (suc n) = spaces-blank n
-
 -- what is blank is spaces
 pub blank-spaces : (bs : List ℕ) → contentOf bs ≡ Blank → bs ≡ replicate (length bs) space
-blank-spaces bs e = subst (SaysAll bs) e (says-all bs)
+blank-spaces bs e = subst (SaysAll 0 bs) e (says-all 0 bs)
 
 -- two numbers have two spellings
 pub spell-apart : (y z : ℤ) → spell y ≡ spell z → y ≡ z
 spell-apart y z e =
     let q : Number y ≡ Number z = sym (spell-reads y) ∙ ap contentOf e ∙ spell-reads z in
     cc
-
--- all of seven bytes say it
-pub read-as : (bs : List ℕ) → length bs ≡ width → ReadAs bs (contentOf bs)
-read-as bs l =
-    record {
-      blank = (λ e. blank-spaces bs e ∙ ap (λ k. replicate k space) l, λ q. ap contentOf q ∙ spaces-blank width);
-      number = λ z. (one-spelling bs z l, λ h. ap contentOf (h .0) ∙ spell-reads z);
-      bad = (
-        λ e. (
-          λ q. let b = spaces-blank width in let o : _≡_ {A = ℕ} 0 1 = cc (ap contentOf q) in omega arith,
-          λ z h. let b = spell-reads z in let o : _≡_ {A = ℕ} 0 1 = cc (ap contentOf (h .0)) in omega arith,
-        ),
-        λ n. go (contentOf bs) refl (n .0) (n .1),
-      );
-    }
-  where
-    go : (c : Content) → contentOf bs ≡ c → (bs ≡ replicate width space → ⊥) → ((z : ℤ) → IsSpelling bs z → ⊥) → contentOf bs ≡ Bad
-    go Blank e b s = absurd (b (blank-spaces bs e ∙ ap (λ k. replicate k space) l))
-    go (Number z) e b s = absurd (s z (one-spelling bs z l e))
-    go Bad e b s = e
 
 -- the numbers that a field can spell
 pub spellable-range : (z : ℤ) → Spellable z ↔ ((negℤ (pos 999999) ≤ℤ z) × (z ≤ℤ pos 9999999))

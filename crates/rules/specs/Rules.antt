@@ -1,4 +1,4 @@
--- The rules of taking, in document 01's words: which refusal applies to a record where a case is held, and with which field.
+-- The rules of taking, in document 01's words: which refusal applies to a record where a case is held, and with which field or byte.
 -- Nothing here says in which order they are tested, or what the collector keeps.
 use mathlib.Core.Path.{_≡_}
 use mathlib.Core.Logic.{_⊎_}
@@ -11,7 +11,8 @@ use lib.ListN.{length, getD}
 use Rattle.record.specs.declared.Content.{Content}
 use Rattle.record.specs.declared.Content.the-variants.{Blank, Number, Bad}
 use Rattle.record.specs.declared.Field.{Field}
-use Rattle.record.specs.Layout.{recordLength, lineFeed, recordOf, at}
+use Rattle.record.specs.Spell.{IsBadByte}
+use Rattle.record.specs.Layout.{fields, recordLength, lineFeed, bytesAt, byteIn, recordOf, at}
 use Rattle.kinds.specs.declared.Kind.{Kind}
 use Rattle.kinds.specs.declared.Kind.the-variants as kind
 use Rattle.kinds.specs.declared.Counts.{Counts}
@@ -46,6 +47,14 @@ fieldsOf bs = recordOf bs .fields
 abbrev pub contentAt : List ℕ → ℕ → Content
 contentAt bs f = at (fieldsOf bs) f
 
+-- byte k of field f of the record is the field's bad byte: the first with which its bytes start no well-formed field
+abbrev pub BadAt : List ℕ → ℕ → ℕ → Type 0
+BadAt bs f k = (f ≤ fields) × IsBadByte (bytesAt bs f) k
+
+-- field f of the record has a bad byte
+abbrev pub HasBad : List ℕ → ℕ → Type 0
+HasBad bs f = (k : ℕ) × BadAt bs f k
+
 -- ---- a row of fields, if it is of kind k
 
 -- the rule of field f, counted from 1
@@ -66,7 +75,7 @@ InRange s z = (rangeOf s .low ≤ℤ z) × (z ≤ℤ rangeOf s .high)
 
 -- field f is neither blank nor a number as it is spelled
 abbrev pub IsBad : List Field → ℕ → Type 0
-IsBad r f = at r f ≡ Bad
+IsBad r f = (k : ℕ) × (at r f ≡ Bad k)
 
 -- field f is needed and blank
 abbrev pub IsMissing : Kind → List Field → ℕ → Type 0
@@ -148,7 +157,7 @@ Applies x bs Taken = ⊥
 Applies x bs NotARecord = length bs ≡ recordLength → ⊥
 Applies x bs NoLineFeed = getD bs (recordLength - 1) 0 ≡ lineFeed → ⊥
 Applies x bs NoSuchKind = (k : Kind) → IsA k bs → ⊥
-Applies x bs (Misspelled f) = Lowest (IsBad (fieldsOf bs)) f
+Applies x bs (Misspelled p) = (f : ℕ) × (k : ℕ) × Lowest (HasBad bs) f × BadAt bs f k × (p ≡ byteIn f k)
 Applies x bs (Misfilled f) =
     (k : Kind)
     × IsA k bs

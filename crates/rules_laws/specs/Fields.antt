@@ -70,7 +70,7 @@ field c = record { content = c }
 blank-again : (c : Content) → MeetsRule rule.Blank c → blank ≡ field c
 blank-again Blank m = refl
 blank-again (Number z) m = absurd (true≢false (m .bare))
-blank-again Bad m = absurd (true≢false (m .spelled))
+blank-again (Bad i) m = absurd (true≢false (m .spelled))
 
 blanks : (rs : List Field) → ((j : ℕ) → MeetsRule rule.Blank (at rs (suc j))) → replicate (length rs) blank ≡ rs
 blanks [] h = refl
@@ -101,7 +101,7 @@ module _ (s : Sort) where
   integer-again : (c : Content) → MeetsRule (rule.Needed s) c → integer (integerOf c) ≡ field c
   integer-again Blank m = absurd (true≢false (m .full))
   integer-again (Number z) m = refl
-  integer-again Bad m = absurd (true≢false (m .spelled))
+  integer-again (Bad i) m = absurd (true≢false (m .spelled))
 
   -- a number from 0 to n, and one that is cut to that
   abbrev UpTo : ℕ → Type 0
@@ -111,7 +111,7 @@ module _ (s : Sort) where
   natural-again n w Blank m = absurd (true≢false (m .full))
   natural-again n w (Number (pos k)) m = (refl, ltb-false n k (wider s (pos 0) (pos n) (pos k) w (m .ranged) .1))
   natural-again n w (Number (negsuc k)) m = absurd (true≢false (wider s (pos 0) (pos n) (negsuc k) w (m .ranged) .0))
-  natural-again n w Bad m = absurd (true≢false (m .spelled))
+  natural-again n w (Bad i) m = absurd (true≢false (m .spelled))
 
   cut-again : (n : ℕ) → UpTo n → (c : Content) → MeetsRule (rule.Needed s) c → number (natural c % suc n) ≡ field c
   cut-again n w c m =
@@ -128,7 +128,7 @@ module _ (s : Sort) where
   short-again w (Number z) m =
       let e = wider s (negsuc 32767) (pos 32767) z w (m .ranged) in
       λ i. integer (cond (e .0 i) (pos 0) (cond (e .1 i) (pos 0) z))
-  short-again w Bad m = absurd (true≢false (m .spelled))
+  short-again w (Bad i) m = absurd (true≢false (m .spelled))
 
   -- fields in a row that have this rule, in front of others, where h gives each again
   each-again : (h : Content → Field) → ((c : Content) → MeetsRule (rule.Needed s) c → h c ≡ field c) → (rs : List Field) (us : List Rule) (xs : List Field)
@@ -145,7 +145,7 @@ module _ (k : Kind) where
   reference-again : (b : Bool) (c : Content) → MeetsRule (neededIf b (Reference k)) c → reference (refOf c) ≡ field c
   reference-again b Blank m = refl
   reference-again b (Number z) m = item-again (Number z) (needed b (Reference k) z m)
-  reference-again b Bad m = absurd (true≢false (m .spelled))
+  reference-again b (Bad i) m = absurd (true≢false (m .spelled))
 
 -- a term: its coefficient and its sentence are both blank or both filled
 term-again : (a b : Bool) (c e : Content)
@@ -156,12 +156,12 @@ term-again : (a b : Bool) (c e : Content)
     → termFields (termOf c e) ≡ field c ∷ field e ∷ []
 term-again a b Blank Blank p q m n = refl
 term-again a b Blank (Number z) p q m n = absurd (true≢false (rw (p refl) at m .full))
-term-again a b Blank Bad p q m n = absurd (true≢false (n .spelled))
+term-again a b Blank (Bad i) p q m n = absurd (true≢false (n .spelled))
 term-again a b (Number y) Blank p q m n = absurd (true≢false (rw (q refl) at n .full))
 term-again a b (Number y) (Number z) p q m n =
     λ i. short-again sort.Coefficient (refl, refl) (Number y) (needed a _ y m) i ∷ item-again kind.Sentence (Number z) (needed b _ z n) i ∷ []
-term-again a b (Number y) Bad p q m n = absurd (true≢false (n .spelled))
-term-again a b Bad e p q m n = absurd (true≢false (m .spelled))
+term-again a b (Number y) (Bad i) p q m n = absurd (true≢false (n .spelled))
+term-again a b (Bad i) e p q m n = absurd (true≢false (m .spelled))
 
 -- fields, and blanks after them
 abbrev padded : List Field → List Field
@@ -176,9 +176,9 @@ mark-again : (x y z : Field) (c d e : Content)
 unfolding markOf
 mark-again x y z Blank Blank Blank m n o = refl
 mark-again x y z Blank Blank (Number e) m n o = absurd (true≢false (m .full))
-mark-again x y z Blank Blank Bad m n o = absurd (true≢false (o .spelled))
+mark-again x y z Blank Blank (Bad i) m n o = absurd (true≢false (o .spelled))
 mark-again x y z Blank (Number d) e m n o = absurd (true≢false (m .full))
-mark-again x y z Blank Bad e m n o = absurd (true≢false (n .spelled))
+mark-again x y z Blank (Bad i) e m n o = absurd (true≢false (n .spelled))
 mark-again x y z (Number c) Blank e m n o =
     let p = cut-again sort.LoopLength 255 (refl, refl) (Number c) (needed (isNumber e) _ c m) in
     λ i. x ∷ y ∷ z ∷ p i ∷ blank ∷ item-again kind.Move e o i ∷ replicate (fields - 6) blank
@@ -186,8 +186,8 @@ mark-again x y z (Number c) (Number d) e m n o =
     let p = cut-again sort.LoopLength 255 (refl, refl) (Number c) m in
     let q = natural-again sort.Rounds 1000000 (refl, refl) (Number d) (needed false _ d n) .0 in
     λ i. x ∷ y ∷ z ∷ p i ∷ q i ∷ item-again kind.Move e o i ∷ replicate (fields - 6) blank
-mark-again x y z (Number c) Bad e m n o = absurd (true≢false (n .spelled))
-mark-again x y z Bad d e m n o = absurd (true≢false (m .spelled))
+mark-again x y z (Number c) (Bad i) e m n o = absurd (true≢false (n .spelled))
+mark-again x y z (Bad i) d e m n o = absurd (true≢false (m .spelled))
 
 -- ---- each kind
 
@@ -268,7 +268,7 @@ module _ (g : ℕ → Content) where
       let h = natural-again sort.Form 6 (refl, refl) _ (met f 1) in
       absurd (omega (arith, h .1))
   sentence-again (Number (negsuc n)) f = absurd (true≢false (met f 1 .ranged))
-  sentence-again Bad f = absurd (true≢false (met f 1 .spelled))
+  sentence-again (Bad i) f = absurd (true≢false (met f 1 .spelled))
 
   again : (k : Kind) (c : Content) → Again k (row c)
   again kind.State = state-again

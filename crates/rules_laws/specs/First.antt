@@ -1,5 +1,5 @@
 -- Taking answers the first refusal that applies, in document 01's order, and there is one first. Assumes nothing.
-use mathlib.Core.Path.{_≡_, refl, _∙_, sym, ap, subst, subst₂}
+use mathlib.Core.Path.{_≡_, refl, _∙_, sym, ap, ap₂, subst, subst₂}
 use mathlib.Core.Logic.{_⊎_, inl, inr, ⊎-elim}
 use mathlib.Core.List.{List}
 use mathlib.Core.Bool.{Bool, true, and-eq-true-iff, false≢true}
@@ -10,7 +10,8 @@ use lib.ListN.{length, getD}
 use borrow.Author.Tests.{eqb-false}
 use Rattle.laws.specs.Lowest.{lowest}
 use Rattle.laws.specs.Tests.{Tells, cond-by, tells-lt, tells-le, tells-and, tells-or}
-use Rattle.record.specs.Layout.{recordLength, lineFeed, recordOf}
+use Rattle.record.specs.Layout.{recordLength, lineFeed, bytesAt, byteIn, recordOf}
+use Rattle.record_laws.specs.BadByte.{one-bad-byte}
 use Rattle.kinds.specs.declared.Kind.{Kind}
 use Rattle.kinds.specs.declared.Kind.the-variants.{Sentence, Place}
 use Rattle.kinds.specs.Kinds.{letterOf, rankOf, same, countOf}
@@ -25,12 +26,12 @@ use Rattle.items.specs.Lists.{Items, listOf, countsOf, roomOf}
 use Rattle.items.specs.Laws.{counted-of}
 use Rattle.answers.specs.declared.Answer.{Answer}
 use Rattle.answers.specs.declared.Answer.the-variants.{Taken, NotARecord, NoLineFeed, NoSuchKind, Misspelled, Misfilled, OutOfRange, OutOfOrder, NoRoom, NotThere, Misplaced, WrongWayIn}
-use Rattle.answers.specs.Answers.{numberOf, fieldOf, testOrder, turnOf, isTaken}
+use Rattle.answers.specs.Answers.{numberOf, thirdOf, testOrder, turnOf, isTaken}
 use Rattle.answers.specs.Laws.{in-order}
 use Rattle.checks.specs.declared.Fault.the-variants as fault
-use Rattle.checks.specs.Faults.{outside}
-use Rattle.checks.specs.Input.{wrongForm, rangeAnswer, extraAnswer, missingAnswer, formAnswer, fieldsAnswer}
-use Rattle.rules.specs.Rules.{IsA, fieldsOf, contentAt, ruleFor, IsMissing, IsExtra, IsOutside, IsNotThere, HasForm, Lowest, Closed, Open, Applies, IsFirst}
+use Rattle.checks.specs.Faults.{badByte, outside}
+use Rattle.checks.specs.Input.{wrongForm, badPlace, rangeAnswer, extraAnswer, missingAnswer, formAnswer, fieldsAnswer}
+use Rattle.rules.specs.Rules.{IsA, fieldsOf, contentAt, ruleFor, IsMissing, IsExtra, IsOutside, IsNotThere, HasForm, BadAt, Lowest, Closed, Open, Applies, IsFirst}
 use Rattle.standing.specs.declared.Loops.{Loops}
 use Rattle.standing.specs.Standing.{noLoops, loopsFrom, isClosed, isOpen, isLong, wayAnswer, markAnswer, placeAnswer, layoutAnswer, thereAnswer, roomAnswer, orderAnswer, recordAnswer}
 use Rattle.collector.specs.declared.Derived.{Derived}
@@ -38,10 +39,11 @@ use Rattle.collector.specs.declared.Case.{Case}
 use Rattle.collector.specs.Cases.{itemsOf}
 use Rattle.collector.specs.Taking.{takenAs, takenBy, takenOf}
 use Rattle.collector.specs.Sound.{Sound}
-use Rattle.rules_laws.specs.Tells.{tells-blank, tells-number, tells-bad, tells-missing, tells-extra, tells-outside, tells-there, tells-form, tells-way}
+use Rattle.rules_laws.specs.Tells.{tells-blank, tells-number, tells-missing, tells-extra, tells-outside, tells-there, tells-form, tells-way}
 use Rattle.rules_laws.specs.Held.{counts-are, derived}
 use Rattle.rules_laws.specs.Loops.{closed-is, open-is}
 use Rattle.rules_laws.specs.Letters.{by-head}
+use Rattle.rules_laws.specs.Bytes.{bad-says, tells-bad-byte}
 use Rattle.rules_laws.specs.Stages.{Nowhere, no-lowest, numbered, Passed, Ends, renumbered, start, more, none, first, refuses, tested, fault-tested}
 
 -- a record's shape, if it is of kind k
@@ -120,12 +122,14 @@ module _ (x : Items) (bs : List ℕ) (k : Kind) (is : IsA k bs) where
       (k, is, form-lowest bs k e)))
       (λ e. missing-ends (tells-form k (recordOf bs) .0 e) p)
 
-  fields-end : Passed x bs 14 → Ends x bs 21 (fieldsAnswer (shaped k bs) (recordOf bs))
+  fields-end : length bs ≡ recordLength → Passed x bs 14 → Ends x bs 21 (fieldsAnswer (shaped k bs) (recordOf bs))
   unfolding fieldsAnswer lowest
-  fields-end p =
-      fault-tested x bs 21 fault.Misspelled (shaped k bs) Misspelled (tells-bad (fieldsOf bs))
-      (λ g l. first x bs (Misspelled g) p l)
-      (λ none. form-ends (more x bs 14 15 refl (λ f l. no-lowest none l) p))
+  fields-end w p =
+      fault-tested x bs 21 fault.Misspelled (shaped k bs) (λ f. Misspelled (badPlace (recordOf bs) f)) (tells-bad-byte bs w)
+      (λ g l.
+      let (i, b) = l .holds in
+      first x bs (Misspelled (badPlace (recordOf bs) g)) p (g, i, l, b, ap (λ c. byteIn g (badByte c)) (bad-says bs w g i b)))
+      (λ none. form-ends (more x bs 14 15 refl (λ f h. no-lowest none (h .2)) p))
 
 -- ---- the results that come from the state
 
@@ -189,11 +193,11 @@ module _ (x : Items) (bs : List ℕ) (l : Loops)
 
   -- ---- the whole
 
-  kind-ends : (k : Kind) → IsA k bs → Passed x bs 14 → Ends x bs 0 (recordAnswer (countsOf x) l k (recordOf bs))
+  kind-ends : length bs ≡ recordLength → (k : Kind) → IsA k bs → Passed x bs 14 → Ends x bs 0 (recordAnswer (countsOf x) l k (recordOf bs))
   unfolding recordAnswer
-  kind-ends k is p =
+  kind-ends w k is p =
       let own = fieldsAnswer (shaped k bs) (recordOf bs) in
-      ⊎-elim (λ t. rw (t .0) (order-ends k is (t .1))) (λ h. rw (refuses x bs own (h .applies)) (inr h)) (fields-end x bs k is p)
+      ⊎-elim (λ t. rw (t .0) (order-ends k is (t .1))) (λ h. rw (refuses x bs own (h .applies)) (inr h)) (fields-end x bs k is w p)
 
 -- no refusal applies and the record is taken, or it gets the first that applies
 pub answers-first : (c : Case) (bs : List ℕ) → Sound c →
@@ -207,7 +211,7 @@ answers-first c bs s =
     (λ w d e. inr (first x bs NoSuchKind (ended w d) e))
     (λ w d k is.
     subst₂ (λ n l. Ends x bs 0 (recordAnswer n l k (recordOf bs))) (sym (counts-are c s)) (sym (ap (λ (d : Derived). d .loops) (derived s)))
-    (kind-ends x bs (loopsFrom noLoops 0 (x .places)) (closed-is x (s .loops)) (open-is x (s .loops)) k is
+    (kind-ends x bs (loopsFrom noLoops 0 (x .places)) (closed-is x (s .loops)) (open-is x (s .loops)) w k is
     (more x bs 13 14 refl (λ f h. h k is) (ended w d)))))
   where
     x : Items
@@ -231,31 +235,34 @@ lowest-one P f g v w =
 both-ways : {A B C D E : Type 0} → (A → C → E) → (A → D → E) → (B → C → E) → (B → D → E) → A ⊎ B → C ⊎ D → E
 both-ways f g h k v w = ⊎-elim (λ a. ⊎-elim (f a) (g a) w) (λ b. ⊎-elim (h b) (k b) w) v
 
--- two answers with one number that both apply have one field
-field-one : (x : Items) (bs : List ℕ) (a : Answer) (g : ℕ) → Applies x bs a → Applies x bs (numbered (numberOf a) g) → a ≡ numbered (numberOf a) g
+-- two answers with one number that both apply have one third number
+third-one : (x : Items) (bs : List ℕ) (a : Answer) (g : ℕ) → Applies x bs a → Applies x bs (numbered (numberOf a) g) → a ≡ numbered (numberOf a) g
 unfolding lowest
-field-one x bs Taken g v w = refl
-field-one x bs NotARecord g v w = refl
-field-one x bs NoLineFeed g v w = refl
-field-one x bs NoSuchKind g v w = refl
-field-one x bs (Misspelled f) g v w = ap Misspelled (lowest-one _ f g v w)
-field-one x bs (Misfilled f) g v w =
+third-one x bs Taken g v w = refl
+third-one x bs NotARecord g v w = refl
+third-one x bs NoLineFeed g v w = refl
+third-one x bs NoSuchKind g v w = refl
+third-one x bs (Misspelled p) g (f, k, l, b, e) (h, j, m, c, d) =
+    let q : h ≡ f = lowest-one _ h f m l in
+    let r : j ≡ k = one-bad-byte (bytesAt bs f) j k (subst (λ i. BadAt bs i j) q c .1) (b .1) in
+    ap Misspelled (e ∙ sym (d ∙ ap₂ byteIn q r))
+third-one x bs (Misfilled f) g v w =
     ap Misfilled (both-ways (lowest-one _ f g) (λ l m. absurd (no-lowest (m .0) l)) (λ l m. absurd (no-lowest (l .0) m)) (λ l m. lowest-one _ f g (l .1) (m .1))
     (v .3) (of-kind bs (v .0) (v .1) (λ j. WrongFill bs j g) (w .0) (w .1) (w .3)))
-field-one x bs (OutOfRange f) g v w =
+third-one x bs (OutOfRange f) g v w =
     ap OutOfRange (lowest-one _ f g (v .2) (of-kind bs (v .0) (v .1) (λ j. Lowest (IsOutside j (fieldsOf bs)) g) (w .0) (w .1) (w .2)))
-field-one x bs OutOfOrder g v w = refl
-field-one x bs NoRoom g v w = refl
-field-one x bs (NotThere f) g v w =
+third-one x bs OutOfOrder g v w = refl
+third-one x bs NoRoom g v w = refl
+third-one x bs (NotThere f) g v w =
     ap NotThere (lowest-one _ f g (v .2) (of-kind bs (v .0) (v .1) (λ j. Lowest (IsNotThere (countsOf x) j (fieldsOf bs)) g) (w .0) (w .1) (w .2)))
-field-one x bs (Misplaced f) g v w =
+third-one x bs (Misplaced f) g v w =
     ap Misplaced (both-ways (λ c d. c .1 ∙ sym (d .1)) (λ c d. absurd (d .0 (c .0))) (λ c d. absurd (c .0 (d .0))) (λ c d. c .2 ∙ sym (d .2)) (v .1) (w .1))
-field-one x bs WrongWayIn g v w = refl
+third-one x bs WrongWayIn g v w = refl
 
 pub first-one : (x : Items) (bs : List ℕ) (a b : Answer) → IsFirst x bs a → IsFirst x bs b → a ≡ b
 first-one x bs a b v w =
     let e : turnOf (numberOf a) ≡ turnOf (numberOf b) =
     neither-less _ _ (λ h. w .earlier a h (v .applies)) (λ h. v .earlier b h (w .applies)) in
-    field-one x bs a (fieldOf b) (v .applies) (renumbered x bs b (numberOf a) (sym e) (w .applies))
-    ∙ ap (λ i. getD (testOrder (fieldOf b)) i Taken) e
+    third-one x bs a (thirdOf b) (v .applies) (renumbered x bs b (numberOf a) (sym e) (w .applies))
+    ∙ ap (λ i. getD (testOrder (thirdOf b)) i Taken) e
     ∙ in-order b

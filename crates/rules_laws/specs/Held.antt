@@ -33,7 +33,7 @@ use Rattle.checks.specs.declared.Fault.the-variants as fault
 use Rattle.checks.specs.declared.Head.{Head}
 use Rattle.checks.specs.declared.Head.the-variants.{Of, Refused}
 use Rattle.checks.specs.Faults.{faultAt, lowestFault}
-use Rattle.checks.specs.Input.{wrongForm, rangeAnswer, extraAnswer, missingAnswer, formAnswer, fieldsAnswer, headOf}
+use Rattle.checks.specs.Input.{badPlace, wrongForm, rangeAnswer, extraAnswer, missingAnswer, formAnswer, fieldsAnswer, headOf}
 use Rattle.rules.specs.Rules.{IsA}
 use Rattle.standing.specs.declared.Loops.{Loops}
 use Rattle.standing.specs.Standing.{noLoops, loopsAfter, loopsFrom, recordAnswer, orderAnswer, roomAnswer, thereAnswer, layoutAnswer, placeAnswer, markAnswer, wayAnswer, isClosed, isOpen, isLong}
@@ -244,7 +244,7 @@ fit-is k bs e =
     let s = shapeOf k r in
     let low : Fault → ℕ = λ f. lowestFault f s r in
     let none : (f : Fault) → leb (low f) fields ≡ false → (g : ℕ) → faultAt f s r g ≡ false = λ f h. fault-none f s bs (leb-false (low f) fields h) in
-    let p0 = passed (leb (low fault.Misspelled) fields) (Misspelled (low fault.Misspelled)) (formAnswer s r) refl e in
+    let p0 = passed (leb (low fault.Misspelled) fields) (Misspelled (badPlace r (low fault.Misspelled))) (formAnswer s r) refl e in
     let p1 = passed (wrongForm s r) (OutOfRange 1) (missingAnswer s r) refl (p0 .1) in
     let p2 = passed (leb (low fault.Missing) fields) (Misfilled (low fault.Missing)) (extraAnswer s r) refl (p1 .1) in
     let p3 = passed (leb (low fault.Extra) fields) (Misfilled (low fault.Extra)) (rangeAnswer s r) refl (p2 .1) in

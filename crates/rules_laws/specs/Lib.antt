@@ -4,6 +4,7 @@ pub mod Fields
 pub mod Held
 pub mod Loops
 pub mod Stages
+pub mod Bytes
 pub mod First
 pub mod Kept
 pub mod Spelled

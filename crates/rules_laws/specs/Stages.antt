@@ -2,7 +2,7 @@
 use mathlib.Core.Path.{_≡_, refl, _∙_, sym, ap, subst}
 use mathlib.Core.Logic.{_⊎_, inr, ⊎-elim}
 use mathlib.Core.List.{List, [], _∷_}
-use mathlib.Core.Bool.{Bool, true, false, cond, _||_}
+use mathlib.Core.Bool.{Bool, true, false, cond, _||_, true≢false}
 use Prim.Native.Nat.{ℕ, zero, suc, _≤_, _<_}
 use native.Mathlib.Nat.{eq-or-lt-of-le, le-of-suc-le-suc}
 use native.Mathlib.Omega.{arith}
@@ -30,7 +30,7 @@ use Rattle.table.specs.Table.{formRows, rulesOf, ruleAt, inFilled}
 use Rattle.items.specs.Lists.{Items}
 use Rattle.answers.specs.declared.Answer.{Answer}
 use Rattle.answers.specs.declared.Answer.the-variants.{Taken}
-use Rattle.answers.specs.Answers.{numberOf, fieldOf, testOrder, turnOf, isTaken}
+use Rattle.answers.specs.Answers.{numberOf, thirdOf, testOrder, turnOf, isTaken}
 use Rattle.answers.specs.Laws.{in-order, taken-is}
 use Rattle.checks.specs.declared.Fault.{Fault}
 use Rattle.checks.specs.declared.Fault.the-variants as fault
@@ -77,6 +77,16 @@ past-fault f s bs (suc k) h =
     ∙ ap (λ c. hasFault f rule.Blank (c .content)) (List·getD-eq-default (recordOf bs .fields) blank l)
     ∙ blank-fault f
 
+-- a field with a fault is one of a record's
+pub in-record : (f : Fault) (s : Shape) (bs : List ℕ) (g : ℕ) → faultAt f s (recordOf bs) g ≡ true → (1 ≤ g) × (g ≤ fields)
+in-record f s bs g e = (
+  elim (decLt 0 g) [ yes h ↦ h | no h ↦ absurd (out (λ l. absurd (omega arith))) ],
+  elim (decLt fields g) [ yes h ↦ absurd (out (λ l. h)) | no h ↦ omega arith ],
+)
+  where
+    out : (0 < g → fields < g) → ⊥
+    out h = true≢false (sym e ∙ past-fault f s bs g h)
+
 module _ (f : Fault) (s : Shape) (bs : List ℕ) where
   abbrev low : ℕ
   low = lowestFault f s (recordOf bs)
@@ -122,8 +132,8 @@ module _ (x : Items) (bs : List ℕ) where
   abbrev pub Ends : ℕ → Answer → Type 0
   Ends n a = ((isTaken a ≡ true) × Passed n) ⊎ IsFirst x bs a
 
-  pub renumbered : (a : Answer) (n : ℕ) → turnOf (numberOf a) ≡ turnOf n → Applies x bs a → Applies x bs (numbered n (fieldOf a))
-  renumbered a n e = subst (Applies x bs) (sym (in-order a) ∙ ap (λ i. getD (testOrder (fieldOf a)) i Taken) e)
+  pub renumbered : (a : Answer) (n : ℕ) → turnOf (numberOf a) ≡ turnOf n → Applies x bs a → Applies x bs (numbered n (thirdOf a))
+  renumbered a n e = subst (Applies x bs) (sym (in-order a) ∙ ap (λ i. getD (testOrder (thirdOf a)) i Taken) e)
 
   -- nothing is tested before 11
   pub start : Passed 11
@@ -133,7 +143,7 @@ module _ (x : Items) (bs : List ℕ) where
   -- m is tested after n
   pub more : (n m : ℕ) → turnOf m ≡ suc (turnOf n) → ((f : ℕ) → Applies x bs (numbered n f) → ⊥) → Passed n → Passed m
   more n m s r p a h w =
-      ⊎-elim (λ e. r (fieldOf a) (renumbered a n e w)) (λ l. p a l w) (eq-or-lt-of-le (le-of-suc-le-suc (rw s at h)))
+      ⊎-elim (λ e. r (thirdOf a) (renumbered a n e w)) (λ l. p a l w) (eq-or-lt-of-le (le-of-suc-le-suc (rw s at h)))
 
   -- all are passed
   pub none : Passed 0 → (a : Answer) → Applies x bs a → ⊥

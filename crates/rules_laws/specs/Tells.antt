@@ -45,7 +45,7 @@ tells-blank c = (go c, ap isBlank)
     go : (c : Content) → isBlank c ≡ true → c ≡ content.Blank
     go content.Blank e = refl
     go (content.Number z) e = no e
-    go content.Bad e = no e
+    go (content.Bad i) e = no e
 
 pub tells-number : (c : Content) → Tells (isNumber c) (IsNumber c)
 tells-number c = (go c, λ (z, e). ap isNumber e)
@@ -53,15 +53,15 @@ tells-number c = (go c, λ (z, e). ap isNumber e)
     go : (c : Content) → isNumber c ≡ true → IsNumber c
     go content.Blank e = no e
     go (content.Number z) e = (z, refl)
-    go content.Bad e = no e
+    go (content.Bad i) e = no e
 
-says-bad : (c : Content) → Tells (misspelled c) (c ≡ content.Bad)
-says-bad c = (go c, ap misspelled)
+says-bad : (c : Content) → Tells (misspelled c) ((k : ℕ) × (c ≡ content.Bad k))
+says-bad c = (go c, λ (k, e). ap misspelled e)
   where
-    go : (c : Content) → misspelled c ≡ true → c ≡ content.Bad
+    go : (c : Content) → misspelled c ≡ true → (k : ℕ) × (c ≡ content.Bad k)
     go content.Blank e = no e
     go (content.Number z) e = no e
-    go content.Bad e = refl
+    go (content.Bad k) e = (k, refl)
 
 -- ---- ranges
 
@@ -106,7 +106,7 @@ module _ (u : Rule) where
   beyond-is : (s : Sort) (c : Content) → beyond (rangeOf s) c ≡ true → (z : ℤ) × (c ≡ content.Number z) × (InRange s z → ⊥)
   beyond-is s content.Blank e = no e
   beyond-is s (content.Number z) e = (z, refl, out-of-range s z .0 e)
-  beyond-is s content.Bad e = no e
+  beyond-is s (content.Bad i) e = no e
 
   outside-is : (c : Content) → Tells (outside u c) ((s : Sort) × (z : ℤ) × Allows u s × (c ≡ content.Number z) × (InRange s z → ⊥))
   outside-is c = (
@@ -131,7 +131,7 @@ module _ (u : Rule) where
     large k content.Blank e = no e
     large k (content.Number (pos m)) e = (m, refl, tells-le k m .0 e)
     large k (content.Number (negsuc m)) e = no e
-    large k content.Bad e = no e
+    large k (content.Bad i) e = no e
 
     refers : (v : Rule) (s : Sort) (c : Content) → Allows v s → dangling n s c ≡ true → Dangles v c
     refers v (Reference j) c a e = let (m, d, h) = large (countOf n j) c e in (m, d, inl (j, a, h))
@@ -178,7 +178,7 @@ form-in-range c = (λ e z d. in-range sort.Form z .0 (ap (outside (Needed sort.F
     go : (c : Content) → ((z : ℤ) → c ≡ content.Number z → InRange sort.Form z) → outside (Needed sort.Form) c ≡ false
     go content.Blank h = refl
     go (content.Number z) h = in-range sort.Form z .1 (h z refl)
-    go content.Bad h = refl
+    go (content.Bad i) h = refl
 
 pub tells-form : (k : Kind) (r : Record) → (wrongForm (shapeOf k r) r ≡ false) ↔ HasForm k (r .fields)
 unfolding shapeOf

@@ -53,8 +53,8 @@ number-requires c κs = search needs
 cast-t8 : tie.Need-cast-t8
 cast-t8 c = search needs
 
-field-requires : tie.Need-field-requires
-field-requires c κs = search needs
+third-requires : tie.Need-third-requires
+third-requires c κs = search needs
 
 cast-t10 : tie.Need-cast-t10
 cast-t10 c = search needs
@@ -66,7 +66,7 @@ returns-2 c =
     let r = e .before .before .take-all .result in
     answer-by (e .before .before)
     (simp (sym (e .before .is-taken .ensures), e .if1 .left)
-    (ap₂ (λ n f. record { result = n; second = r .taken; third = f }) (c .before .number .ensures) (c .field .ensures)))
+    (ap₂ (λ n f. record { result = n; second = r .taken; third = f }) (c .before .number .ensures) (c .third .ensures)))
 
 pub answer-spec : {M : Type 1} → statement M
 answer-spec =
@@ -80,6 +80,6 @@ answer-spec =
     returns
     number-requires
     cast-t8
-    field-requires
+    third-requires
     cast-t10
     returns-2)

@@ -1,7 +1,12 @@
 -- `checks::fields_answer` meets its contract: one lemma for each test says what is answered past it. Assumes nothing.
 use mathlib.Core.Path.{_≡_, _∙_, sym}
+use native.Mathlib.Omega.{arith}
 use borrow.Author.Needs.{needs}
 use borrow.Author.Tests.{le-leb, lt-leb}
+use Rattle.laws.specs.Lowest.{lowest-is}
+use Rattle.record.specs.Layout.{fields}
+use Rattle.checks.specs.declared.Fault.the-variants.{Misspelled}
+use Rattle.checks.specs.Faults.{faultAt, lowestFault}
 use Rattle.checks.specs.Input.{rangeAnswer, extraAnswer, missingAnswer, formAnswer, fieldsAnswer}
 use Rattle.checks.proofs.fields_answer.Statement.{statement}
 use Rattle.checks.proofs.fields_answer.Tie as tie
@@ -26,12 +31,17 @@ past4 c = past3 (c .before .before) ∙ simp (sym (c .before .lowest-fault3 .ens
 lowest-fault-requires : tie.Need-lowest-fault-requires
 lowest-fault-requires c κs = search needs
 
-cast-t9 : tie.Need-cast-t9
-cast-t9 c = search needs
+bad-place-requires : tie.Need-bad-place-requires
+unfolding lowestFault
+bad-place-requires c κs =
+    let a = c .before .before .args in
+    let low = lowest-is (faultAt Misspelled (a .shape) (a .row)) fields 1 .after in
+    let e = c .before .lowest-fault .ensures in
+    (omega arith, omega arith)
 
 returns : tie.Need-returns
 unfolding fieldsAnswer
-returns c = simp (sym (c .before .lowest-fault .ensures), le-leb _ _ (c .if1 .taken))
+returns c = simp (c .bad-place .ensures, sym (c .before .before .lowest-fault .ensures), le-leb _ _ (c .before .if1 .taken))
 
 has-wrong-form-requires : tie.Need-has-wrong-form-requires
 has-wrong-form-requires c κs = search needs
@@ -79,7 +89,7 @@ fields-answer-spec =
     tie.close
     (tie.spec
     lowest-fault-requires
-    cast-t9
+    bad-place-requires
     returns
     has-wrong-form-requires
     returns-2

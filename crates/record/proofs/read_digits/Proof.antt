@@ -19,7 +19,7 @@ use Rattle.record.proofs.read_digits.Statement.{statement}
 use Rattle.record.proofs.read_digits.Tie as tie
 
 abbrev Inv-loop : tie.InvT-loop
-Inv-loop part from neg first n₀ i₀ n i = (i ≤ length part) × ((digits neg first (drop from part) ≡ digits neg n (drop i part)) × (n < 10 ^ i))
+Inv-loop part from neg first n₀ i₀ n i = (i ≤ length part) × ((digits neg first from (drop from part) ≡ digits neg n i (drop i part)) × (n < 10 ^ i))
 
 abbrev μ-loop : tie.MeasureT-loop
 μ-loop part from neg first n₀ i₀ n i = length part - i
@@ -62,6 +62,9 @@ no-digit c =
     (⊎-elim (λ w. too-low 0 _ (w .2 .taken)) (λ w. too-high 0 _ (w .3 .taken)))
     (c .before .loop-test .came)
 
+cast-t18 : tie.Need-cast-t18 Inv-loop μ-loop
+cast-t18 c = omega arith
+
 returns : tie.Need-returns Inv-loop μ-loop
 returns c =
     let l = c .before .before .loop in
@@ -72,11 +75,11 @@ fits : (c : tie.Else3 Inv-loop μ-loop) → c .before .before .loop .n < 2 ^ hbi
 fits c = omega (arith, small (c .before .before))
 
 ended : (c : tie.Else3 Inv-loop μ-loop) {s : Bool} → let a = c .before .before .before .args in
-    a .neg ≡ s → digits (a .neg) (a .first) (drop (a .from) (a .part .now)) ≡ Number (signed s (c .before .before .loop .n))
+    a .neg ≡ s → digits (a .neg) (a .first) (a .from) (drop (a .from) (a .part .now)) ≡ Number (signed s (c .before .before .loop .n))
 unfolding digits
 ended c e =
     let l = c .before .before .loop in
-    l .inv .1 .0 ∙ ap (digits _ (l .n)) (drop-of-length-le _ {i = l .i} (omega arith)) ∙ ap (λ s. Number (signed s (l .n))) e
+    l .inv .1 .0 ∙ ap (digits _ (l .n) (l .i)) (drop-of-length-le _ {i = l .i} (omega arith)) ∙ ap (λ s. Number (signed s (l .n))) e
 
 cast-x : tie.Need-cast-x Inv-loop μ-loop
 cast-x c = pos-fits w32 _ (fits c)
@@ -104,6 +107,7 @@ read-digits-spec =
     add-i
     loop-less
     loop-again
+    cast-t18
     returns
     cast-x
     sub-y

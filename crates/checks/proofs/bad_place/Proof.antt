@@ -1,0 +1,59 @@
+-- `checks::bad_place` meets its contract. Assumes nothing.
+use borrow.Author.Needs.{needs}
+use mathlib.Core.Path.{_∙_, sym, ap}
+use Rattle.record.specs.Layout.{byteIn}
+use Rattle.record.proofs.At.{at-is}
+use Rattle.checks.specs.Faults.{badByte}
+use Rattle.checks.proofs.bad_place.Statement.{statement}
+use Rattle.checks.proofs.bad_place.Tie as tie
+
+sub-field : tie.Need-sub-field
+sub-field c = search needs
+
+mul-field : tie.Need-mul-field
+mul-field c = search needs
+
+array-copy-out-field : tie.Need-array-copy-out-field
+array-copy-out-field c = search needs
+
+sub-start : tie.Need-sub-start
+sub-start c = search needs
+
+mul-start : tie.Need-mul-start
+mul-start c = search needs
+
+add-start : tie.Need-add-start
+add-start c = search needs
+
+cast-result : tie.Need-cast-result
+cast-result c = search needs
+
+bad-byte-requires : tie.Need-bad-byte-requires
+bad-byte-requires c κs = search needs
+
+cast-result-2 : tie.Need-cast-result-2
+cast-result-2 c = search needs
+
+add-result : tie.Need-add-result
+add-result c = search needs
+
+returns : tie.Need-returns
+returns c =
+    let a = c .before .before .before .args in
+    ap (byteIn (a .k)) (c .bad-byte .ensures ∙ ap badByte (sym (at-is (a .row .fields) (a .k) (c .before .before .before .pre .0))))
+
+pub bad-place-spec : {M : Type 1} → statement M
+bad-place-spec =
+    tie.close
+    (tie.spec
+    sub-field
+    mul-field
+    array-copy-out-field
+    sub-start
+    mul-start
+    add-start
+    cast-result
+    bad-byte-requires
+    cast-result-2
+    add-result
+    returns)
