@@ -304,7 +304,10 @@ fn by_place(run: &Run, truth: &[bool], last: bool) -> Vec<bool> {
 }
 
 /// What a field may have in place of a number, with `|` between them: bad spellings, no number, and the first and last numbers that fit or don't.
-const SPELLINGS: &[u8] = b"|-|+1|1,250|1.5|007|-0|00|12 3| 5 |1 |0 |- 1|--1|1-|-00001|1e3|x|\t|\t1|\xb2|-999999|9999999|-1000000|10000000";
+const SPELLINGS: &[u8] = b"|-|+|+1|1,250|1.5|007|0012|05 |0      |0000000|-0|-00|-0 |00|12 3| 5 |1 |1      |0 |- 1|-      |--1|1-|-00001|1e3|x\
+    |\t|\t1|\0|1\0|\0     1|\xb2|\xc3\xa9|1\xff|\x80      |-999999|9999999|-1000000|10000000";
+/// Bytes that are bad somewhere in a field, and digits.
+const BYTES: &[u8; 18] = b" 0-19+,./:x\0\t\n\r\x7f\x80\xff";
 const NUMBERS: [i64; 26] = [
     -1, 0, 1, 2, 3, 5, 6, 7, 15, 16, 31, 32, 63, 64, 999, 1_000, -1_000, 9_999, 10_000, -10_000, 65_535, 65_536, 1_048_575, 1_048_576, 1_000_001,
     HIGHEST,
@@ -323,16 +326,40 @@ fn put(bytes: &mut Vec<u8>, at: usize, number: usize, text: &[u8]) {
     }
 }
 
-/// A file with each spelling in each field.
+/// Fields that differ from a right one in a byte at most.
+fn one_byte_off() -> Vec<[u8; WIDTH]> {
+    let rights = [b"       ", b"      1", b"  -1250", b"9999999"];
+    let off = |right: [u8; WIDTH], at: usize, byte: u8| std::array::from_fn(|other| if other == at { byte } else { right[other] });
+    rights.into_iter().flat_map(|&right| (0..WIDTH).flat_map(move |at| BYTES.map(|byte| off(right, at, byte)))).collect()
+}
+
+/// What is written in a file: in a record, in one field or in two, a text.
+type Change<'a> = (usize, Vec<(usize, &'a [u8])>);
+
+/// A file with each spelling in each field; with a field that is a byte off, in each field of some record; and with a bad field before or after one
+/// that is blank, outside its range, or bad as well.
 pub fn misspelled(file: &[u8]) -> Vec<Vec<u8>> {
-    let mut files = Vec::new();
-    for (at, number) in (0..file.len() / LENGTH).flat_map(|at| (1..=8).map(move |number| (at, number))) {
-        for text in spellings() {
-            files.push(file.to_vec());
-            put(files.last_mut().expect("a file"), at, number, text);
+    let records = file.len() / LENGTH;
+    let mut changes: Vec<Change> = Vec::new();
+    for (at, number) in (0..records).flat_map(|at| (1..=8).map(move |number| (at, number))) {
+        changes.extend(spellings().into_iter().map(|text| (at, vec![(number, text)])));
+        for other in (1..=8).filter(|&other| other != number) {
+            for text in [&b""[..], b"9999999", b"1,250"] {
+                changes.extend([&b"-"[..], b"05 "].map(|bad| (at, vec![(number, bad), (other, text)])));
+            }
         }
     }
-    files
+    let off = one_byte_off();
+    let everywhere = off.iter().flat_map(|text| (1..=8).map(move |number| (number, &text[..])));
+    changes.extend(everywhere.enumerate().map(|(count, change)| (count % records, vec![change])));
+    changes.into_iter().map(|change| changed(file, change)).collect()
+}
+
+/// The file after a change.
+fn changed(file: &[u8], (at, texts): Change) -> Vec<u8> {
+    let mut bytes = file.to_vec();
+    texts.into_iter().for_each(|(number, text)| put(&mut bytes, at, number, text));
+    bytes
 }
 
 /// The file of a case, with damage done to it.
@@ -427,17 +454,23 @@ impl Damaged<'_> {
         }
     }
 
-    /// The bytes of a field or of a record.
+    /// The bytes of a field, of two fields or of a record.
     fn damage_bytes(&mut self) {
         let (.., at) = self.some_item();
-        let number = self.r.between(1, 8) as usize;
+        let [number, other] = [0; 2].map(|_| self.r.between(1, 8) as usize);
         let content = self.r.pick(&NUMBERS).to_string();
         let text = self.r.pick(&spellings());
-        match self.r.below(5) {
+        let any = [0; WIDTH].map(|_| if self.r.chance(30) { b' ' } else { self.r.pick(BYTES) });
+        match self.r.below(7) {
             0 => put(&mut self.bytes, at, number, content.as_bytes()),
             1 => put(&mut self.bytes, at, number, text),
             2 => put(&mut self.bytes, at, number, b""),
-            3 => {
+            3 => put(&mut self.bytes, at, number, &any),
+            4 => {
+                put(&mut self.bytes, at, number, text);
+                put(&mut self.bytes, at, other, &any);
+            }
+            5 => {
                 let byte = self.r.below(self.bytes.len());
                 self.bytes[byte] = if self.r.chance(70) { self.r.pick(b" 0-1,9\nSP") } else { self.r.below(256) as u8 };
             }

@@ -2,7 +2,7 @@
 use crate::library::Answer;
 use crate::mistakes::Mistake::{self, *};
 
-/// The result and the field of a refusal.
+/// The result of a refusal, and what it tells: a field, for 14 a byte, or 0.
 type Refusal = (usize, usize);
 /// A record's fields by their numbers 1 to 8; entry 0 is not used.
 pub type Fields = [Option<i64>; 9];
@@ -25,7 +25,7 @@ pub fn read(bytes: &[u8], mistake: Mistake) -> Result<Case, Answer> {
     let whole = bytes.len() / LENGTH * LENGTH;
     let bytes = if mistake == ShortLastLeftOut { &bytes[..whole] } else { bytes };
     for (number, record) in bytes.chunks(LENGTH).enumerate() {
-        let refused = |(result, field)| [result, number, field];
+        let refused = |(result, what)| [result, number, what];
         let (kind, fields) = from_input(record, mistake).map_err(refused)?;
         from_state(&case, kind, &fields, mistake).map_err(refused)?;
         case.0[kind].push(fields);
@@ -42,6 +42,46 @@ fn field(text: &[u8], mistake: Mistake) -> Option<Option<i64>> {
     let word = if mistake == SpacesAfter { text.trim_matches(' ') } else { text.trim_start_matches(' ') };
     let number: i64 = word.parse().ok()?;
     (number.to_string() == word || mistake == OtherSpellings).then_some(Some(number))
+}
+
+/// Whether some field begins with these bytes. It is enough to try spaces behind them, and ones. Spaces alone begin the blank field. Where there is
+/// more than spaces, a field is a number that goes on with digits to its end, and each of these can be a 1: the first behind a minus, and any
+/// behind another digit; behind a first 0 there are none.
+fn begins_field(bytes: &[u8], mistake: Mistake) -> bool {
+    [b' ', b'1'].iter().any(|&more| {
+        let mut text = [more; WIDTH];
+        text[..bytes.len()].copy_from_slice(bytes);
+        field(&text, mistake).is_some()
+    })
+}
+
+/// The bad byte of a text that is no field, by its place in it from 0: the first up to which the bytes begin no field.
+fn bad_byte(text: &[u8], mistake: Mistake) -> usize {
+    let at = (0..WIDTH).find(|&at| !begins_field(&text[..=at], mistake)).expect("all of the text is no field");
+    let after_spaces = text[..at].iter().all(|&byte| byte == b' ');
+    let late = after_spaces && matches!((mistake, text[at]), (ZeroLate, b'0') | (MinusLate, b'-'));
+    at + late as usize
+}
+
+/// The fields of a record, or 14 with the place in the record of the lowest bad field's bad byte.
+fn contents(record: &[u8], mistake: Mistake) -> Result<Fields, Refusal> {
+    let (mut fields, mut bad) = ([None; 9], Vec::new());
+    for (text, number) in record[1..LENGTH - 1].chunks(WIDTH).zip(1..) {
+        match field(text, mistake) {
+            Some(content) => fields[number] = content,
+            None => bad.push((number, bad_byte(text, mistake) + 1)),
+        }
+    }
+    let told = if mistake == HighestBad { bad.last() } else { bad.first() };
+    let Some(&(number, within)) = told else { return Ok(fields) };
+    let place = (number - 1) * WIDTH + within;
+    let what = match mistake {
+        ByteAfter => place + 1,
+        ByteWithin => within,
+        FieldTold => number,
+        _ => place,
+    };
+    Err((14, what))
 }
 
 /// The seven characters of a field.
@@ -108,10 +148,7 @@ fn from_input(record: &[u8], mistake: Mistake) -> Result<(usize, Fields), Refusa
         return Err((12, 0));
     }
     let kind = LETTERS.iter().position(|&letter| letter == record[0]).ok_or((13, 0))?;
-    let mut fields = [None; 9];
-    for (at, text) in record[1..LENGTH - 1].chunks(WIDTH).enumerate() {
-        fields[at + 1] = field(text, mistake).ok_or((14, at + 1))?;
-    }
+    let fields = contents(record, mistake)?;
     if kind == F && mistake != FormLate && fields[1].is_some_and(|form| !in_range(b'f', form, mistake)) {
         return Err((16, 1));
     }
