@@ -7,7 +7,8 @@ pub const LENGTH: usize = 58;
 enum Field {
     Blank,
     Number(i32),
-    Bad,
+    // the place of the bad byte within the field, from 0
+    Bad(u8),
 }
 
 #[derive(Clone, Copy, PartialEq)]
@@ -44,6 +45,7 @@ enum Rule {
 #[derive(Clone, Copy, PartialEq, Debug)]
 pub enum Answer {
     Taken,
+    // the result; then the field, for 14 the place of the bad byte in the record, or 0
     Refused(u8, u8),
 }
 
@@ -107,6 +109,7 @@ pub struct Case {
 const ROOM: [usize; 5] = [32, 32, 64, 20, 64];
 
 fn read_field(part: &[u8]) -> Field {
+    let bad = |i: usize| Field::Bad(i as u8);
     let mut i = 0;
     while i < part.len() && part[i] == b' ' {
         i += 1;
@@ -118,19 +121,19 @@ fn read_field(part: &[u8]) -> Field {
     if negative {
         i += 1;
         if i == part.len() {
-            return Field::Bad;
+            return bad(i - 1);
         }
     } else if part[i] == b'0' {
-        return if i + 1 == part.len() { Field::Number(0) } else { Field::Bad };
+        return if i + 1 == part.len() { Field::Number(0) } else { bad(i) };
     }
     if !(b'1'..=b'9').contains(&part[i]) {
-        return Field::Bad;
+        return bad(i);
     }
     let mut n = 0i32;
     while i < part.len() {
         let b = part[i];
         if !b.is_ascii_digit() {
-            return Field::Bad;
+            return bad(i);
         }
         n = 10 * n + (b - b'0') as i32;
         i += 1;
@@ -279,13 +282,17 @@ impl Case {
         let wrong = |k: usize| match rule(kind, form, x, k) {
             Rule::Blank => x[k] != Field::Blank,
             Rule::Needed(sort) => !filled(x[k]) || outside(sort, x[k]),
-            Rule::Optional(sort) => x[k] == Field::Bad || outside(sort, x[k]),
+            Rule::Optional(sort) => matches!(x[k], Field::Bad(_)) || outside(sort, x[k]),
         };
         if (0..FIELDS).all(|k| !wrong(k)) {
             return Answer::Taken;
         }
-        if let Some(k) = Case::lowest(|k| x[k] == Field::Bad) {
-            return Answer::Refused(14, k);
+        let bad = |(k, field): (usize, &Field)| match *field {
+            Field::Bad(i) => Some((1 + k * WIDTH) as u8 + i),
+            _ => None,
+        };
+        if let Some(place) = x.iter().enumerate().find_map(bad) {
+            return Answer::Refused(14, place);
         }
         if kind == Kind::Sentence && outside(Sort::Form, x[0]) {
             return Answer::Refused(16, 1);

@@ -352,6 +352,6 @@ pub fn answer(src: &[u8]) -> [usize; 3] {
     let mut case = Case::empty();
     match case.take_all(src) {
         Answer::Taken => case.judge(),
-        Answer::Refused(result, field) => [result as usize, case.count.iter().sum(), field as usize],
+        Answer::Refused(result, what) => [result as usize, case.count.iter().sum(), what as usize],
     }
 }
