@@ -9,13 +9,13 @@ pub enum Answer {
     NotARecord,
     NoLineFeed,
     NoSuchKind,
-    Misspelled(u16),
-    Misfilled(u8),
-    OutOfRange(u8),
+    Misspelled(usize),
+    Misfilled(usize),
+    OutOfRange(usize),
     OutOfOrder,
     NoRoom,
-    NotThere(u8),
-    Misplaced(u8),
+    NotThere(usize),
+    Misplaced(usize),
     WrongWayIn,
 }
 
@@ -66,7 +66,7 @@ impl Answer {
     }
 
     // The third number of an answer: the byte or the field that it names; 0 where it names none.
-    pub fn third(self) -> u16
+    pub fn third(self) -> usize
         ensures { λ r. ⌜ r ≡ thirdOf self ⌝ }
     {
         match self {
@@ -75,12 +75,12 @@ impl Answer {
             Answer::NoLineFeed => 0,
             Answer::NoSuchKind => 0,
             Answer::Misspelled(byte) => byte,
-            Answer::Misfilled(field) => field as u16,
-            Answer::OutOfRange(field) => field as u16,
+            Answer::Misfilled(field) => field,
+            Answer::OutOfRange(field) => field,
             Answer::OutOfOrder => 0,
             Answer::NoRoom => 0,
-            Answer::NotThere(field) => field as u16,
-            Answer::Misplaced(field) => field as u16,
+            Answer::NotThere(field) => field,
+            Answer::Misplaced(field) => field,
             Answer::WrongWayIn => 2,
         }
     }

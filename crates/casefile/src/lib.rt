@@ -22,6 +22,6 @@ pub fn answer(bytes: &[u8]) -> Told
     Told {
         result: answer.number() as usize,
         second: run.taken,
-        third: answer.third() as usize,
+        third: answer.third(),
     }
 }

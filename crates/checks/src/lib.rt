@@ -43,7 +43,7 @@ fn is_misspelled(content: Content) -> bool
 }
 
 // Which byte of a field is bad, counted from 0; 0 where none is.
-fn bad_byte(content: Content) -> u8
+fn bad_byte(content: Content) -> u32
     ensures { λ r. ⌜ r ≡ badByte content ⌝ }
 {
     match content {
@@ -193,15 +193,14 @@ pub fn lowest_fault(fault: Fault, shape: Shape, row: Record) -> usize
 }
 
 // The place in the record of the bad byte of field k, counted from 1.
-fn bad_place(row: Record, k: usize) -> u16
+fn bad_place(row: Record, k: usize) -> usize
     requires { ⌜ (1 ≤ k) × (k ≤ fields) ⌝ }
     ensures { λ r. ⌜ r ≡ badPlace row k ⌝ }
 {
     let fields = row.fields;
     let field = fields[k - 1];
     let content = field.content;
-    let start = 1 + (k - 1) * Record::WIDTH;
-    start as u16 + bad_byte(content) as u16
+    1 + (k - 1) * Record::WIDTH + bad_byte(content) as usize
 }
 
 // A sentence whose form is filled, but is none.
@@ -232,15 +231,15 @@ pub fn fields_answer(shape: Shape, row: Record) -> Answer
     }
     let missing = lowest_fault(Fault::Missing, shape, row);
     if missing <= Record::FIELDS {
-        return Answer::Misfilled(missing as u8);
+        return Answer::Misfilled(missing);
     }
     let extra = lowest_fault(Fault::Extra, shape, row);
     if extra <= Record::FIELDS {
-        return Answer::Misfilled(extra as u8);
+        return Answer::Misfilled(extra);
     }
     let outside = lowest_fault(Fault::OutOfRange, shape, row);
     if outside <= Record::FIELDS {
-        return Answer::OutOfRange(outside as u8);
+        return Answer::OutOfRange(outside);
     }
     Answer::Taken
 }

@@ -9,7 +9,7 @@ ghost use Rattle.record.specs.Layout.{width, recordLength, recordOf};
 pub enum Content {
     Blank,
     Number(i32),
-    Bad(u8),
+    Bad(u32),
 }
 
 // A field of a record. (An array of enums can be no field of a struct, so a field is a struct that holds one.)
@@ -73,7 +73,7 @@ fn read_field(part: &[u8]) -> Content
     let j = i + 1;
     if b == b'-' {
         if j == part.len() {
-            return Content::Bad(i as u8);
+            return Content::Bad(i as u32);
         }
         return read_number(part, j, true);
     }
@@ -81,7 +81,7 @@ fn read_field(part: &[u8]) -> Content
         if j == part.len() {
             return Content::Number(0);
         }
-        return Content::Bad(i as u8);
+        return Content::Bad(i as u32);
     }
     read_number(part, i, false)
 }
@@ -93,10 +93,10 @@ fn read_number(part: &[u8], i: usize, neg: bool) -> Content
 {
     let b = part[i];
     if b < b'1' {
-        return Content::Bad(i as u8);
+        return Content::Bad(i as u32);
     }
     if b'9' < b {
-        return Content::Bad(i as u8);
+        return Content::Bad(i as u32);
     }
     read_digits(part, i + 1, neg, (b - b'0') as u32)
 }
@@ -120,7 +120,7 @@ fn read_digits(part: &[u8], from: usize, neg: bool, first: u32) -> Content
         i += 1;
     }
     if i < part.len() {
-        return Content::Bad(i as u8);
+        return Content::Bad(i as u32);
     }
     let x = n as i32;
     if neg {

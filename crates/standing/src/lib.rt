@@ -153,7 +153,7 @@ fn state_answer(count: Counts, loops: Loops, kind: Kind, row: Record, absent: us
         return Answer::NoRoom;
     }
     if absent <= Record::FIELDS {
-        return Answer::NotThere(absent as u8);
+        return Answer::NotThere(absent);
     }
     layout_answer(count, loops, kind, row)
 }

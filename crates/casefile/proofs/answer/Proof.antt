@@ -56,9 +56,6 @@ cast-t8 c = search needs
 third-requires : tie.Need-third-requires
 third-requires c κs = search needs
 
-cast-t10 : tie.Need-cast-t10
-cast-t10 c = search needs
-
 returns-2 : tie.Need-returns-2
 unfolding sumOver
 returns-2 c =
@@ -81,5 +78,4 @@ answer-spec =
     number-requires
     cast-t8
     third-requires
-    cast-t10
     returns-2)

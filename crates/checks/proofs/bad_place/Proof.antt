@@ -16,26 +16,23 @@ mul-field c = search needs
 array-copy-out-field : tie.Need-array-copy-out-field
 array-copy-out-field c = search needs
 
-sub-start : tie.Need-sub-start
-sub-start c = search needs
+sub-result : tie.Need-sub-result
+sub-result c = search needs
 
-mul-start : tie.Need-mul-start
-mul-start c = search needs
+mul-result : tie.Need-mul-result
+mul-result c = search needs
 
-add-start : tie.Need-add-start
-add-start c = search needs
-
-cast-result : tie.Need-cast-result
-cast-result c = search needs
+add-result : tie.Need-add-result
+add-result c = search needs
 
 bad-byte-requires : tie.Need-bad-byte-requires
 bad-byte-requires c κs = search needs
 
-cast-result-2 : tie.Need-cast-result-2
-cast-result-2 c = search needs
+cast-result : tie.Need-cast-result
+cast-result c = search needs
 
-add-result : tie.Need-add-result
-add-result c = search needs
+add-result-2 : tie.Need-add-result-2
+add-result-2 c = search needs
 
 returns : tie.Need-returns
 returns c =
@@ -49,11 +46,10 @@ bad-place-spec =
     sub-field
     mul-field
     array-copy-out-field
-    sub-start
-    mul-start
-    add-start
-    cast-result
-    bad-byte-requires
-    cast-result-2
+    sub-result
+    mul-result
     add-result
+    bad-byte-requires
+    cast-result
+    add-result-2
     returns)

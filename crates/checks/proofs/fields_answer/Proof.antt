@@ -53,9 +53,6 @@ returns-2 c = sym (past1 (c .before .before) ∙ simp (sym (c .before .has-wrong
 lowest-fault-requires-2 : tie.Need-lowest-fault-requires-2
 lowest-fault-requires-2 c κs = search needs
 
-cast-t11 : tie.Need-cast-t11
-cast-t11 c = search needs
-
 returns-3 : tie.Need-returns-3
 unfolding missingAnswer
 returns-3 c = sym (past2 (c .before .before) ∙ simp (sym (c .before .lowest-fault2 .ensures), le-leb _ _ (c .if3 .taken)))
@@ -63,18 +60,12 @@ returns-3 c = sym (past2 (c .before .before) ∙ simp (sym (c .before .lowest-fa
 lowest-fault-requires-3 : tie.Need-lowest-fault-requires-3
 lowest-fault-requires-3 c κs = search needs
 
-cast-t12 : tie.Need-cast-t12
-cast-t12 c = search needs
-
 returns-4 : tie.Need-returns-4
 unfolding extraAnswer
 returns-4 c = sym (past3 (c .before .before) ∙ simp (sym (c .before .lowest-fault3 .ensures), le-leb _ _ (c .if4 .taken)))
 
 lowest-fault-requires-4 : tie.Need-lowest-fault-requires-4
 lowest-fault-requires-4 c κs = search needs
-
-cast-t13 : tie.Need-cast-t13
-cast-t13 c = search needs
 
 returns-5 : tie.Need-returns-5
 unfolding rangeAnswer
@@ -94,12 +85,9 @@ fields-answer-spec =
     has-wrong-form-requires
     returns-2
     lowest-fault-requires-2
-    cast-t11
     returns-3
     lowest-fault-requires-3
-    cast-t12
     returns-4
     lowest-fault-requires-4
-    cast-t13
     returns-5
     returns-6)

@@ -48,9 +48,6 @@ returns-2 c =
     let a = c .before .before .before .before .before .before .args in
     sym (past1 (c .before .before .before) ∙ simp (le-leb (roomOf (a .kind)) (countOf (a .count) (a .kind)) (omega arith)))
 
-cast-t9 : tie.Need-cast-t9
-cast-t9 c = search needs
-
 returns-3 : tie.Need-returns-3
 unfolding thereAnswer
 returns-3 c = sym (past2 (c .before) ∙ simp (sym (c .before .before .before .before .before .before .before .pre), le-leb _ _ (c .if3 .taken)))
@@ -74,7 +71,6 @@ state-answer-spec =
     room-of-requires
     of-requires
     returns-2
-    cast-t9
     returns-3
     layout-answer-requires
     returns-4)
