@@ -2,7 +2,7 @@
 ghost use mathlib.Core.Path.{_≡_};
 ghost use Prim.Native.Nat.{_+_, _≤_, _<_, _^_};
 ghost use lib.ListN.{length, drop, getD};
-ghost use Rattle.record.specs.Spelling.{contentOf, leading, digits};
+ghost use Rattle.record.specs.Spelling.{space, contentOf, contentFrom, leading, digits};
 ghost use Rattle.record.specs.Layout.{width, recordLength, recordOf};
 
 // What a field says; where it is neither blank nor a number, which of its bytes is bad, counted from 0.
@@ -54,7 +54,7 @@ impl Record {
     }
 }
 
-// Reads one field: passes the spaces, then a minus or a 0.
+// Reads one field: passes the spaces.
 fn read_field(part: &[u8]) -> Content
     requires { ⌜ length (now part) ≡ width ⌝ }
     ensures { λ r. ⌜ r ≡ contentOf (now (part .entry)) ⌝ }
@@ -62,13 +62,18 @@ fn read_field(part: &[u8]) -> Content
     let mut i = 0;
     while i < part.len() {
         if part[i] != b' ' {
-            break;
+            return read_token(part, i);
         }
         i += 1;
     }
-    if i == part.len() {
-        return Content::Blank;
-    }
+    Content::Blank
+}
+
+// Reads what follows the spaces, from byte i on: a minus, a 0 or another digit.
+fn read_token(part: &[u8], i: usize) -> Content
+    requires { ⌜ (i < length (now part)) × ((length (now part) ≡ width) × (getD (now part) i 0 ≡ space → ⊥)) ⌝ }
+    ensures { λ r. ⌜ r ≡ contentFrom i (drop i (now (part .entry))) ⌝ }
+{
     let b = part[i];
     let j = i + 1;
     if b == b'-' {
@@ -92,10 +97,7 @@ fn read_number(part: &[u8], i: usize, neg: bool) -> Content
     ensures { λ r. ⌜ r ≡ leading neg i (getD (now (part .entry)) i 0) (drop (i + 1) (now (part .entry))) ⌝ }
 {
     let b = part[i];
-    if b < b'1' {
-        return Content::Bad(i as u32);
-    }
-    if b'9' < b {
+    if b < b'1' || b'9' < b {
         return Content::Bad(i as u32);
     }
     read_digits(part, i + 1, neg, (b - b'0') as u32)
@@ -110,17 +112,11 @@ fn read_digits(part: &[u8], from: usize, neg: bool, first: u32) -> Content
     let mut i = from;
     while i < part.len() {
         let b = part[i];
-        if b < b'0' {
-            break;
-        }
-        if b'9' < b {
-            break;
+        if b < b'0' || b'9' < b {
+            return Content::Bad(i as u32);
         }
         n = 10 * n + (b - b'0') as u32;
         i += 1;
-    }
-    if i < part.len() {
-        return Content::Bad(i as u32);
     }
     let x = n as i32;
     if neg {

@@ -1,17 +1,18 @@
 -- `record::read_digits` meets its contract. The loop's invariant: what is left to read, after the digits read so far, says what the whole says, and
 -- the number so far is below 10 to the bytes passed. The measure is what is left of the length. Assumes nothing.
 use mathlib.Core.Path.{_≡_, refl, _∙_, sym, ap}
-use mathlib.Core.Bool.{Bool, false}
+use mathlib.Core.Bool.{Bool}
 use mathlib.Core.Logic.{⊎-elim}
 use Prim.Native.Nat.{_-_, _≤_, _<_, _^_}
 use native.Mathlib.Omega.{arith}
+use borrow.Author.Tests.{ltb-true, ltb-false}
 use lib.ListN.{length, getD, drop, drop-of-length-le}
 use mir.Syntax.{w32}
 use mir.Val.{hbits}
 use mir.ValLaws.{toZ-pos}
 use Rattle.laws.specs.Signed.{pos-fits, minus-fits, minus-read}
 use Rattle.record.specs.declared.Content.the-variants.{Number}
-use Rattle.record.specs.Spelling.{digitFrom, signed, digits}
+use Rattle.record.specs.Spelling.{digit, signed, digits}
 use Rattle.record.specs.Layout.{width}
 use Rattle.record.proofs.Small.{below, pow-more}
 use Rattle.record.proofs.Steps.{is-digit, too-low, too-high, digits-more, digits-bad}
@@ -33,14 +34,28 @@ loop-holds c = (c .pre .0, (refl, c .pre .1 .1))
 shared-slice-read-b : tie.Need-shared-slice-read-b Inv-loop μ-loop
 shared-slice-read-b c = omega arith
 
+cast-t16 : tie.Need-cast-t16 Inv-loop μ-loop
+cast-t16 c = omega arith
+
+returns : tie.Need-returns Inv-loop μ-loop
+returns c =
+    let l = c .before .before .before .loop in
+    let b = getD (c .before .before .before .before .args .part .now) (l .i) 0 in
+    let none = ⊎-elim (λ w. too-low 0 b (w .taken)) (λ w. too-high 0 b (ltb-true (digit 9) b (w .1 .taken))) (c .if1 .came) in
+    sym (l .inv .1 .0 ∙ digits-bad _ _ _ (l .i) (omega arith) none)
+
+-- the byte is a digit
+at-most : (c : tie.Else2 Inv-loop μ-loop) → getD (c .before .before .before .before .before .args .part .now) (c .before .before .before .before .loop .i) 0 ≤ digit 9
+at-most c = ltb-false (digit 9) _ (c .if2 .left)
+
 mul-n : tie.Need-mul-n Inv-loop μ-loop
 mul-n c = omega (arith, small (c .before .before .before .before))
 
 cast-n : tie.Need-cast-n Inv-loop μ-loop
-cast-n c = omega arith
+cast-n c = omega (arith, at-most c)
 
 add-n : tie.Need-add-n Inv-loop μ-loop
-add-n c = omega (arith, small (c .before .before .before .before))
+add-n c = omega (arith, at-most c, small (c .before .before .before .before))
 
 add-i : tie.Need-add-i Inv-loop μ-loop
 add-i c = omega arith
@@ -51,34 +66,18 @@ loop-less c = omega arith
 loop-again : tie.Need-loop-again Inv-loop μ-loop
 loop-again c =
     let l = c .before .before .before .before .loop in
-    let d = is-digit 0 _ (c .before .if1 .left) (c .if2 .left) in
-    (omega arith, (l .inv .1 .0 ∙ digits-more _ _ _ (l .i) (omega arith) d, omega (arith, pow-more (l .i), l .inv .1 .1)))
-
--- before the last byte the loop is left only at a byte that is no digit
-no-digit : (c : tie.Then3 Inv-loop μ-loop) → digitFrom 0 (getD (c .before .before .before .args .part .now) (c .before .before .loop .i) 0) ≡ false
-no-digit c =
-    ⊎-elim
-    (λ w. absurd (omega (arith, w .left)))
-    (⊎-elim (λ w. too-low 0 _ (w .2 .taken)) (λ w. too-high 0 _ (w .3 .taken)))
-    (c .before .loop-test .came)
-
-cast-t18 : tie.Need-cast-t18 Inv-loop μ-loop
-cast-t18 c = omega arith
-
-returns : tie.Need-returns Inv-loop μ-loop
-returns c =
-    let l = c .before .before .loop in
-    sym (l .inv .1 .0 ∙ digits-bad _ _ _ (l .i) (omega arith) (no-digit c))
+    let d = is-digit 0 _ (c .before .if1 .left) (at-most c) in
+    (omega arith, (l .inv .1 .0 ∙ digits-more _ _ _ (l .i) (omega arith) d, omega (arith, at-most c, pow-more (l .i), l .inv .1 .1)))
 
 -- past the last byte: the number fits, and it is what the whole says
-fits : (c : tie.Else3 Inv-loop μ-loop) → c .before .before .loop .n < 2 ^ hbits w32
-fits c = omega (arith, small (c .before .before))
+fits : (c : tie.After-loop Inv-loop μ-loop) → c .before .loop .n < 2 ^ hbits w32
+fits c = omega (arith, small (c .before))
 
-ended : (c : tie.Else3 Inv-loop μ-loop) {s : Bool} → let a = c .before .before .before .args in
-    a .neg ≡ s → digits (a .neg) (a .first) (a .from) (drop (a .from) (a .part .now)) ≡ Number (signed s (c .before .before .loop .n))
+ended : (c : tie.After-loop Inv-loop μ-loop) {s : Bool} → let a = c .before .before .args in
+    a .neg ≡ s → digits (a .neg) (a .first) (a .from) (drop (a .from) (a .part .now)) ≡ Number (signed s (c .before .loop .n))
 unfolding digits
 ended c e =
-    let l = c .before .before .loop in
+    let l = c .before .loop in
     l .inv .1 .0 ∙ ap (digits _ (l .n) (l .i)) (drop-of-length-le _ {i = l .i} (omega arith)) ∙ ap (λ s. Number (signed s (l .n))) e
 
 cast-x : tie.Need-cast-x Inv-loop μ-loop
@@ -88,10 +87,10 @@ sub-y : tie.Need-sub-y Inv-loop μ-loop
 sub-y c = minus-fits w32 _ (fits (c .before))
 
 returns-2 : tie.Need-returns-2 Inv-loop μ-loop
-returns-2 c = ap Number (minus-read w32 _ (fits (c .before))) ∙ sym (ended (c .before) (c .if4 .taken))
+returns-2 c = ap Number (minus-read w32 _ (fits (c .before))) ∙ sym (ended (c .before) (c .if3 .taken))
 
 returns-3 : tie.Need-returns-3 Inv-loop μ-loop
-returns-3 c = ap Number (toZ-pos w32 _ (fits (c .before))) ∙ sym (ended (c .before) (c .if4 .left))
+returns-3 c = ap Number (toZ-pos w32 _ (fits (c .before))) ∙ sym (ended (c .before) (c .if3 .left))
 
 pub read-digits-spec : {M : Type 1} → statement M
 read-digits-spec =
@@ -101,14 +100,14 @@ read-digits-spec =
     μ-loop
     loop-holds
     shared-slice-read-b
+    cast-t16
+    returns
     mul-n
     cast-n
     add-n
     add-i
     loop-less
     loop-again
-    cast-t18
-    returns
     cast-x
     sub-y
     returns-2

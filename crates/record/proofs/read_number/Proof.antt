@@ -1,8 +1,12 @@
 -- `record::read_number` meets its contract. Assumes nothing.
 use borrow.Author.Needs.{needs}
+use borrow.Author.Tests.{ltb-true, ltb-false}
 use mathlib.Core.Path.{_∙_, sym}
+use mathlib.Core.Logic.{⊎-elim}
+use Prim.Native.Nat.{_≤_}
 use native.Mathlib.Omega.{arith}
 use lib.ListN.{getD}
+use Rattle.record.specs.Spelling.{digit}
 use Rattle.record.proofs.Small.{pow-one, pow-more}
 use Rattle.record.proofs.Steps.{is-digit, too-low, too-high, leading-more, leading-bad}
 use Rattle.record.proofs.read_number.Statement.{statement}
@@ -11,19 +15,19 @@ use Rattle.record.proofs.read_number.Tie as tie
 shared-slice-read-b : tie.Need-shared-slice-read-b
 shared-slice-read-b c = search needs
 
-cast-t8 : tie.Need-cast-t8
-cast-t8 c = omega arith
+cast-t9 : tie.Need-cast-t9
+cast-t9 c = omega arith
 
 returns : tie.Need-returns
 returns c =
     let a = c .before .before .before .args in
-    sym (leading-bad _ _ _ _ (too-low 1 (getD (a .part .now) (a .i) 0) (omega arith)))
+    let b = getD (a .part .now) (a .i) 0 in
+    let none = ⊎-elim (λ w. too-low 1 b (w .taken)) (λ w. too-high 1 b (ltb-true (digit 9) b (w .1 .taken))) (c .if1 .came) in
+    sym (leading-bad _ _ _ _ none)
 
-cast-t9 : tie.Need-cast-t9
-cast-t9 c = omega arith
-
-returns-2 : tie.Need-returns-2
-returns-2 c = sym (leading-bad _ _ _ _ (too-high 1 _ (c .if2 .taken)))
+-- the byte is a digit
+at-most : (c : tie.Else2) → let a = c .before .before .before .before .args in getD (a .part .now) (a .i) 0 ≤ digit 9
+at-most c = ltb-false (digit 9) _ (c .if2 .left)
 
 add-read-digits : tie.Need-add-read-digits
 add-read-digits c = search needs
@@ -32,27 +36,25 @@ sub-read-digits : tie.Need-sub-read-digits
 sub-read-digits c = search needs
 
 cast-read-digits : tie.Need-cast-read-digits
-cast-read-digits c = search needs
+cast-read-digits c = omega (arith, at-most c)
 
 read-digits-requires : tie.Need-read-digits-requires
 read-digits-requires c κs =
     let i = c .before .before .before .before .args .i in
-    (search needs, (search needs, omega (arith, pow-one i, pow-more i)))
+    (search needs, (search needs, omega (arith, at-most c, pow-one i, pow-more i)))
 
-returns-3 : tie.Need-returns-3
-returns-3 c = c .read-digits .ensures ∙ sym (leading-more _ _ _ _ (is-digit 1 _ (omega arith) (c .before .if2 .left)))
+returns-2 : tie.Need-returns-2
+returns-2 c = c .read-digits .ensures ∙ sym (leading-more _ _ _ _ (is-digit 1 _ (c .before .before .if1 .left) (at-most (c .before))))
 
 pub read-number-spec : {M : Type 1} → statement M
 read-number-spec =
     tie.close
     (tie.spec
     shared-slice-read-b
-    cast-t8
-    returns
     cast-t9
-    returns-2
+    returns
     add-read-digits
     sub-read-digits
     cast-read-digits
     read-digits-requires
-    returns-3)
+    returns-2)
