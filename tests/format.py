@@ -7,7 +7,6 @@ range at both ends and one past them, each field blank that is needed and filled
 blank, and each kind with as many items as it may have and one more. Every definition that is cited is declared in its file.
 """
 import collections
-import functools
 import itertools
 import os
 import re
@@ -15,12 +14,10 @@ import subprocess
 import sys
 
 from cases import LENGTH, ROOT
+from pages import CRATES, blocks, changed, cut, results_defined, spell, with_changes
 from tally import Tally
 
 DOCUMENT = ROOT / "docs" / "FORMAT.md"
-CRATES = ROOT / "crates"
-ANSWERS = "answers/specs/Answers.antt"
-JUDGED = "meaning/specs/Judged.antt"
 FIELDS = range(1, 9)
 SPELLED = range(-999999, 10000000)
 
@@ -29,9 +26,6 @@ LEAST = {"examples": 69, "results": 18, "forms": 7, "spellings": 13, "rows": 26,
 
 CITATION = re.compile(r"\[`([a-z_]+/(?:specs|src)/\w+\.(?:antt|rt))`: (`[^`]+`(?:, `[^`]+`)*)\]")
 GIVES = re.compile(r"gives (\d+ \d+ \d+)(?: +with (.*?))? *(?:#.*)?")
-PUT = re.compile(r'put (\d+) (\d+) "(.*)"')
-CUT = re.compile(r"cut (\d+)")
-BUT = re.compile(r"(\d+) ([SGTFP].*)")
 
 # Of each kind: records to begin with, and the last of them as often as it takes.
 ROOM = {
@@ -54,33 +48,8 @@ class Count(Tally):
         self.seen = collections.Counter()
 
 
-@functools.cache
-def spell(notation):
-    """The bytes that the notation spells."""
-    return subprocess.run([sys.executable, ROOT / "tools" / "case", "spell"], input=notation.encode(), stdout=subprocess.PIPE, check=True).stdout
-
-
-def cut(data):
-    """The records of a file."""
-    return [data[start:start + LENGTH] for start in range(0, len(data), LENGTH)]
-
-
 def answer(program, data):
     return subprocess.run([program], input=data, stdout=subprocess.PIPE, check=True).stdout.decode("latin-1")
-
-
-def blocks(text, name):
-    """The fenced blocks with this name: the number of the line after the fence, and the lines."""
-    found, lines = [], None
-    for number, line in enumerate(text.split("\n"), 1):
-        if lines is None and line == "```" + name:
-            lines = []
-            found.append((number + 1, lines))
-        elif line.startswith("```"):
-            lines = None
-        elif lines is not None:
-            lines.append(line)
-    return found
 
 
 def table(text, head):
@@ -93,21 +62,6 @@ def table(text, head):
 # ---- examples
 
 
-def changed(data, change):
-    """The file after one change: a record in the place of another, bytes written into a record, or only so many bytes of the file."""
-    if put := PUT.fullmatch(change):
-        start, patch = int(put[1]) * LENGTH + int(put[2]), put[3].encode()
-    elif end := CUT.fullmatch(change):
-        return data[:int(end[1])]
-    elif but := BUT.fullmatch(change):
-        start, patch = int(but[1]) * LENGTH, spell(but[2])
-    else:
-        raise ValueError(f"no change of a case: {change}")
-    if start + len(patch) > len(data):
-        raise ValueError(f"past the end of the case: {change}")
-    return data[:start] + patch + data[start + len(patch):]
-
-
 def root_form(data):
     """The form of a case's last sentence, as it is spelled."""
     return [record[1:8].decode().strip() for record in cut(data) if record[:1] == b"F"][-1]
@@ -116,9 +70,7 @@ def root_form(data):
 def example(count, program, name, records, line):
     """Runs the case of a block as a line of it gives it, and compares; the case, and the line that it says."""
     gives = GIVES.fullmatch(line)
-    case = spell(records)
-    for change in re.split("; *", gives[2]) if gives[2] else []:
-        case = changed(case, change)
+    case = with_changes(spell(records), gives[2])
     count.equal(name, gives[1] + "\n", answer(program, case))
     count.seen["examples"] += 1
     return case, gives[1]
@@ -278,15 +230,6 @@ def citations(count, text):
     for rule in rules_of(text):
         count.equal(f"carried by a definition: {rule:.60}", True, bool(CITATION.search(rule)))
         count.seen["rules"] += 1
-
-
-def results_defined():
-    """The numbers of all results in their order: of the tests of a record, then of what a judgement says."""
-    answers, judged = ((CRATES / path).read_text(encoding="utf-8") for path in (ANSWERS, JUDGED))
-    told = dict(re.findall(r"^told \(?(\w+).* = \((\d+),", answers, re.M))
-    numbers_of = dict(re.findall(r"^numbersOf \(?(\w+).* = numbers (\d+)", answers, re.M))
-    tested = re.findall(r"[A-Z]\w+", re.search(r"^testOrder f =\n(.*)", answers, re.M)[1])
-    return [int(told[name]) for name in tested] + [int(numbers_of[name]) for name in re.findall(r"^Judged x θ \(?(\w+)", judged, re.M)]
 
 
 def main():
