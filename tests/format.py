@@ -14,7 +14,7 @@ import subprocess
 import sys
 
 from cases import LENGTH, ROOT
-from pages import CRATES, blocks, changed, cut, results_defined, spell, with_changes
+from pages import CRATES, blocks, changed, cut, results_defined, spell, unspelled, with_changes
 from tally import Tally
 
 DOCUMENT = ROOT / "docs" / "FORMAT.md"
@@ -22,7 +22,7 @@ FIELDS = range(1, 9)
 SPELLED = range(-999999, 10000000)
 
 # What the document has at least. Whoever adds to it raises them.
-LEAST = {"examples": 69, "results": 18, "forms": 7, "spellings": 13, "rows": 26, "kinds": 5, "rules": 98, "citations": 190}
+LEAST = {"examples": 70, "results": 18, "forms": 7, "spellings": 17, "rows": 26, "kinds": 5, "rules": 98, "citations": 200}
 
 CITATION = re.compile(r"\[`([a-z_]+/(?:specs|src)/\w+\.(?:antt|rt))`: (`[^`]+`(?:, `[^`]+`)*)\]")
 GIVES = re.compile(r"gives (\d+ \d+ \d+)(?: +with (.*?))? *(?:#.*)?")
@@ -97,17 +97,17 @@ def examples(count, program, text):
 
 
 def spellings(count, program, text):
-    """Seven bytes as the bound of a guard: 14 where they are bad, 15 where they are blank, and else the guard is taken."""
-    lines = {"bad": "14 0 5\n", "blank": "15 0 5\n"}
+    """Seven bytes as the bound of a guard, which has the bytes 29 to 35: 14 where one is bad, 15 where they are blank, and else the guard is taken."""
+    lines = {"blank": "15 0 5\n", **{f"bad at {byte}": f"14 0 {29 + byte}\n" for byte in range(7)}}
     for first, block in blocks(text, "spelling"):
         for number, line in enumerate(block, first):
-            said = line.split('"')[-1].strip()
-            for field in re.findall('"(.{7})"', line):
-                got = answer(program, changed(spell("G 0 0 0 0 0"), f'put 0 29 "{field}"'))
-                count.equal(f"line {number}: {field!r}", lines.get(said, "24 1 0\n"), got)
-                if said not in lines:
-                    count.equal(f"line {number}: {field!r}", said, field.strip())
-                count.seen["spellings"] += 1
+            field, said = re.fullmatch('"(.*)" (.*)', line).groups()
+            count.equal(f"line {number}: bytes of {field!r}", 7, len(unspelled(field)))
+            got = answer(program, changed(spell("G 0 0 0 0 0"), f'put 0 29 "{field}"'))
+            count.equal(f"line {number}: {field!r}", lines.get(said, "24 1 0\n"), got)
+            if said not in lines:
+                count.equal(f"line {number}: {field!r}", said, field.strip())
+            count.seen["spellings"] += 1
 
 
 # ---- the tables of kinds and fields

@@ -180,27 +180,28 @@ pub fn lowest_fault(fault: Fault, shape: Shape, row: Record) -> usize
     ensures { λ r. ⌜ r ≡ lowestFault fault shape row ⌝ }
 {
     let fields = row.fields;
-    let mut k: usize = 1;
-    while k <= Record::FIELDS {
-        let field = fields[k - 1];
+    let mut f: usize = 1;
+    while f <= Record::FIELDS {
+        let field = fields[f - 1];
         let content = field.content;
-        if has_fault(fault, table::rule_at(shape, k), content) {
-            return k;
+        if has_fault(fault, table::rule_at(shape, f), content) {
+            return f;
         }
-        k = k + 1;
+        f = f + 1;
     }
-    k
+    f
 }
 
-// The place in the record of the bad byte of field k, counted from 1.
-fn bad_place(row: Record, k: usize) -> usize
-    requires { ⌜ (1 ≤ k) × (k ≤ fields) ⌝ }
-    ensures { λ r. ⌜ r ≡ badPlace row k ⌝ }
+// The place in the record of the bad byte of field f, counted from 1.
+fn bad_place(row: Record, f: usize) -> usize
+    requires { ⌜ (1 ≤ f) × (f ≤ fields) ⌝ }
+    ensures { λ r. ⌜ r ≡ badPlace row f ⌝ }
 {
+    let at = f - 1;
     let fields = row.fields;
-    let field = fields[k - 1];
+    let field = fields[at];
     let content = field.content;
-    1 + (k - 1) * Record::WIDTH + bad_byte(content) as usize
+    1 + at * Record::WIDTH + bad_byte(content) as usize
 }
 
 // A sentence whose form is filled, but is none.

@@ -78,7 +78,7 @@ fn read_token(part: &[u8], i: usize) -> Content
     let j = i + 1;
     if b == b'-' {
         if j == part.len() {
-            return Content::Bad(i as u32);
+            return Content::Bad(i as u32); // the minus itself
         }
         return read_number(part, j, true);
     }
@@ -86,21 +86,21 @@ fn read_token(part: &[u8], i: usize) -> Content
         if j == part.len() {
             return Content::Number(0);
         }
-        return Content::Bad(i as u32);
+        return Content::Bad(i as u32); // the 0 itself
     }
     read_number(part, i, false)
 }
 
-// Reads a number other than 0 whose first digit is byte i, with a minus before it or not.
-fn read_number(part: &[u8], i: usize, neg: bool) -> Content
-    requires { ⌜ (i < length (now part)) × (length (now part) ≡ width) ⌝ }
-    ensures { λ r. ⌜ r ≡ leading neg i (getD (now (part .entry)) i 0) (drop (i + 1) (now (part .entry))) ⌝ }
+// Reads a number other than 0 whose first digit is byte `at`, with a minus before it or not.
+fn read_number(part: &[u8], at: usize, neg: bool) -> Content
+    requires { ⌜ (at < length (now part)) × (length (now part) ≡ width) ⌝ }
+    ensures { λ r. ⌜ r ≡ leading neg at (getD (now (part .entry)) at 0) (drop (at + 1) (now (part .entry))) ⌝ }
 {
-    let b = part[i];
+    let b = part[at];
     if b < b'1' || b'9' < b {
-        return Content::Bad(i as u32);
+        return Content::Bad(at as u32);
     }
-    read_digits(part, i + 1, neg, (b - b'0') as u32)
+    read_digits(part, at + 1, neg, (b - b'0') as u32)
 }
 
 // Reads the digits from byte `from` on, after those of `first`.
@@ -109,14 +109,14 @@ fn read_digits(part: &[u8], from: usize, neg: bool, first: u32) -> Content
     ensures { λ r. ⌜ r ≡ digits neg first from (drop from (now (part .entry))) ⌝ }
 {
     let mut n = first;
-    let mut i = from;
-    while i < part.len() {
-        let b = part[i];
+    let mut j = from;
+    while j < part.len() {
+        let b = part[j];
         if b < b'0' || b'9' < b {
-            return Content::Bad(i as u32);
+            return Content::Bad(j as u32);
         }
         n = 10 * n + (b - b'0') as u32;
-        i += 1;
+        j += 1;
     }
     let x = n as i32;
     if neg {

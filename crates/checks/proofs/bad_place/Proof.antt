@@ -7,17 +7,14 @@ use Rattle.checks.specs.Faults.{badByte}
 use Rattle.checks.proofs.bad_place.Statement.{statement}
 use Rattle.checks.proofs.bad_place.Tie as tie
 
-sub-field : tie.Need-sub-field
-sub-field c = search needs
+sub-at : tie.Need-sub-at
+sub-at c = search needs
 
 mul-field : tie.Need-mul-field
 mul-field c = search needs
 
 array-copy-out-field : tie.Need-array-copy-out-field
 array-copy-out-field c = search needs
-
-sub-result : tie.Need-sub-result
-sub-result c = search needs
 
 mul-result : tie.Need-mul-result
 mul-result c = search needs
@@ -36,17 +33,16 @@ add-result-2 c = search needs
 
 returns : tie.Need-returns
 returns c =
-    let a = c .before .before .before .args in
-    ap (byteIn (a .k)) (c .bad-byte .ensures ∙ ap badByte (sym (at-is (a .row .fields) (a .k) (c .before .before .before .pre .0))))
+    let s = c .before .before .before in
+    ap (byteIn (s .args .f)) (c .bad-byte .ensures ∙ ap badByte (sym (at-is (s .args .row .fields) (s .args .f) (s .pre .0))))
 
 pub bad-place-spec : {M : Type 1} → statement M
 bad-place-spec =
     tie.close
     (tie.spec
-    sub-field
+    sub-at
     mul-field
     array-copy-out-field
-    sub-result
     mul-result
     add-result
     bad-byte-requires

@@ -11,10 +11,10 @@ use Rattle.checks.proofs.lowest_fault.Statement.{statement}
 use Rattle.checks.proofs.lowest_fault.Tie as tie
 
 abbrev Inv-loop : tie.InvT-loop
-Inv-loop fault shape row k₀ k = From (faultAt fault shape (record { fields = row })) fields 1 k × (0 < k)
+Inv-loop fault shape row f₀ f = From (faultAt fault shape (record { fields = row })) fields 1 f × (0 < f)
 
 abbrev μ-loop : tie.MeasureT-loop
-μ-loop fault shape row k₀ k = fields + 1 - k
+μ-loop fault shape row f₀ f = fields + 1 - f
 
 loop-holds : tie.Need-loop-holds Inv-loop μ-loop
 loop-holds c = let a = c .before .args in (from-none (faultAt (a .fault) (a .shape) (a .row)) fields 1, omega arith)
@@ -38,21 +38,21 @@ has-fault-requires c κs = search needs
 tested :
     (c : tie.After-has-fault Inv-loop μ-loop) →
     let a = c .before .before .before .before .before .before .args in
-    faultAt (a .fault) (a .shape) (a .row) (c .before .before .before .before .loop .k) ≡ c .has-fault .result
+    faultAt (a .fault) (a .shape) (a .row) (c .before .before .before .before .loop .f) ≡ c .has-fault .result
 tested c =
     let l = c .before .before .before .before .loop in
     let a = c .before .before .before .before .before .before .args in
-    simp (at-is (a .row .fields) (l .k) (l .inv .1)) (sym (simp (c .before .rule-at .ensures) at (c .has-fault .ensures)))
+    simp (at-is (a .row .fields) (l .f) (l .inv .1)) (sym (simp (c .before .rule-at .ensures) at (c .has-fault .ensures)))
 
 returns : tie.Need-returns Inv-loop μ-loop
 unfolding lowestFault
 returns c =
     let l = c .before .before .before .before .before .loop in
     let a = c .before .before .before .before .before .before .before .args in
-    found (faultAt (a .fault) (a .shape) (a .row)) fields 1 (l .k) (omega arith) (tested (c .before) ∙ c .if1 .taken) (l .inv .0)
+    found (faultAt (a .fault) (a .shape) (a .row)) fields 1 (l .f) (omega arith) (tested (c .before) ∙ c .if1 .taken) (l .inv .0)
 
-add-k : tie.Need-add-k Inv-loop μ-loop
-add-k c = search needs
+add-f : tie.Need-add-f Inv-loop μ-loop
+add-f c = search needs
 
 loop-less : tie.Need-loop-less Inv-loop μ-loop
 loop-less c = search needs
@@ -61,14 +61,14 @@ loop-again : tie.Need-loop-again Inv-loop μ-loop
 loop-again c =
     let l = c .before .before .before .before .before .loop in
     let a = c .before .before .before .before .before .before .before .args in
-    (from-more (faultAt (a .fault) (a .shape) (a .row)) fields 1 (l .k) (omega arith) (tested (c .before) ∙ c .if1 .left) (l .inv .0), omega arith)
+    (from-more (faultAt (a .fault) (a .shape) (a .row)) fields 1 (l .f) (omega arith) (tested (c .before) ∙ c .if1 .left) (l .inv .0), omega arith)
 
 returns-2 : tie.Need-returns-2 Inv-loop μ-loop
 unfolding lowestFault
 returns-2 c =
     let l = c .before .loop in
     let a = c .before .before .before .args in
-    not-found (faultAt (a .fault) (a .shape) (a .row)) fields 1 (l .k) (omega arith) (l .inv .0)
+    not-found (faultAt (a .fault) (a .shape) (a .row)) fields 1 (l .f) (omega arith) (l .inv .0)
 
 pub lowest-fault-spec : {M : Type 1} → statement M
 lowest-fault-spec =
@@ -83,7 +83,7 @@ lowest-fault-spec =
     rule-at-requires
     has-fault-requires
     returns
-    add-k
+    add-f
     loop-less
     loop-again
     returns-2)

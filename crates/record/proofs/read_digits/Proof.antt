@@ -20,13 +20,13 @@ use Rattle.record.proofs.read_digits.Statement.{statement}
 use Rattle.record.proofs.read_digits.Tie as tie
 
 abbrev Inv-loop : tie.InvT-loop
-Inv-loop part from neg first n₀ i₀ n i = (i ≤ length part) × ((digits neg first from (drop from part) ≡ digits neg n i (drop i part)) × (n < 10 ^ i))
+Inv-loop part from neg first n₀ j₀ n j = (j ≤ length part) × ((digits neg first from (drop from part) ≡ digits neg n j (drop j part)) × (n < 10 ^ j))
 
 abbrev μ-loop : tie.MeasureT-loop
-μ-loop part from neg first n₀ i₀ n i = length part - i
+μ-loop part from neg first n₀ j₀ n j = length part - j
 
 small : (c : tie.At-loop Inv-loop μ-loop) → c .loop .n < 10 ^ width
-small c = below (c .loop .i) width (omega arith) (c .loop .inv .1 .1)
+small c = below (c .loop .j) width (omega arith) (c .loop .inv .1 .1)
 
 loop-holds : tie.Need-loop-holds Inv-loop μ-loop
 loop-holds c = (c .pre .0, (refl, c .pre .1 .1))
@@ -40,12 +40,12 @@ cast-t16 c = omega arith
 returns : tie.Need-returns Inv-loop μ-loop
 returns c =
     let l = c .before .before .before .loop in
-    let b = getD (c .before .before .before .before .args .part .now) (l .i) 0 in
+    let b = getD (c .before .before .before .before .args .part .now) (l .j) 0 in
     let none = ⊎-elim (λ w. too-low 0 b (w .taken)) (λ w. too-high 0 b (ltb-true (digit 9) b (w .1 .taken))) (c .if1 .came) in
-    sym (l .inv .1 .0 ∙ digits-bad _ _ _ (l .i) (omega arith) none)
+    sym (l .inv .1 .0 ∙ digits-bad _ _ _ (l .j) (omega arith) none)
 
 -- the byte is a digit
-at-most : (c : tie.Else2 Inv-loop μ-loop) → getD (c .before .before .before .before .before .args .part .now) (c .before .before .before .before .loop .i) 0 ≤ digit 9
+at-most : (c : tie.Else2 Inv-loop μ-loop) → getD (c .before .before .before .before .before .args .part .now) (c .before .before .before .before .loop .j) 0 ≤ digit 9
 at-most c = ltb-false (digit 9) _ (c .if2 .left)
 
 mul-n : tie.Need-mul-n Inv-loop μ-loop
@@ -57,8 +57,8 @@ cast-n c = omega (arith, at-most c)
 add-n : tie.Need-add-n Inv-loop μ-loop
 add-n c = omega (arith, at-most c, small (c .before .before .before .before))
 
-add-i : tie.Need-add-i Inv-loop μ-loop
-add-i c = omega arith
+add-j : tie.Need-add-j Inv-loop μ-loop
+add-j c = omega arith
 
 loop-less : tie.Need-loop-less Inv-loop μ-loop
 loop-less c = omega arith
@@ -67,7 +67,7 @@ loop-again : tie.Need-loop-again Inv-loop μ-loop
 loop-again c =
     let l = c .before .before .before .before .loop in
     let d = is-digit 0 _ (c .before .if1 .left) (at-most c) in
-    (omega arith, (l .inv .1 .0 ∙ digits-more _ _ _ (l .i) (omega arith) d, omega (arith, at-most c, pow-more (l .i), l .inv .1 .1)))
+    (omega arith, (l .inv .1 .0 ∙ digits-more _ _ _ (l .j) (omega arith) d, omega (arith, at-most c, pow-more (l .j), l .inv .1 .1)))
 
 -- past the last byte: the number fits, and it is what the whole says
 fits : (c : tie.After-loop Inv-loop μ-loop) → c .before .loop .n < 2 ^ hbits w32
@@ -78,7 +78,7 @@ ended : (c : tie.After-loop Inv-loop μ-loop) {s : Bool} → let a = c .before .
 unfolding digits
 ended c e =
     let l = c .before .loop in
-    l .inv .1 .0 ∙ ap (digits _ (l .n) (l .i)) (drop-of-length-le _ {i = l .i} (omega arith)) ∙ ap (λ s. Number (signed s (l .n))) e
+    l .inv .1 .0 ∙ ap (digits _ (l .n) (l .j)) (drop-of-length-le _ {i = l .j} (omega arith)) ∙ ap (λ s. Number (signed s (l .n))) e
 
 cast-x : tie.Need-cast-x Inv-loop μ-loop
 cast-x c = pos-fits w32 _ (fits c)
@@ -105,7 +105,7 @@ read-digits-spec =
     mul-n
     cast-n
     add-n
-    add-i
+    add-j
     loop-less
     loop-again
     cast-x

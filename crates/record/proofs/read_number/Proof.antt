@@ -21,12 +21,12 @@ cast-t9 c = omega arith
 returns : tie.Need-returns
 returns c =
     let a = c .before .before .before .args in
-    let b = getD (a .part .now) (a .i) 0 in
+    let b = getD (a .part .now) (a .at) 0 in
     let none = ⊎-elim (λ w. too-low 1 b (w .taken)) (λ w. too-high 1 b (ltb-true (digit 9) b (w .1 .taken))) (c .if1 .came) in
     sym (leading-bad _ _ _ _ none)
 
 -- the byte is a digit
-at-most : (c : tie.Else2) → let a = c .before .before .before .before .args in getD (a .part .now) (a .i) 0 ≤ digit 9
+at-most : (c : tie.Else2) → let a = c .before .before .before .before .args in getD (a .part .now) (a .at) 0 ≤ digit 9
 at-most c = ltb-false (digit 9) _ (c .if2 .left)
 
 add-read-digits : tie.Need-add-read-digits
@@ -40,7 +40,7 @@ cast-read-digits c = omega (arith, at-most c)
 
 read-digits-requires : tie.Need-read-digits-requires
 read-digits-requires c κs =
-    let i = c .before .before .before .before .args .i in
+    let i = c .before .before .before .before .args .at in
     (search needs, (search needs, omega (arith, at-most c, pow-one i, pow-more i)))
 
 returns-2 : tie.Need-returns-2
