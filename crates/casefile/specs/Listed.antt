@@ -5,17 +5,15 @@ use mathlib.Core.List.{List, [], _∷_, List·Memᴰ·append-cases}
 use mathlib.Core.Bool.{Bool, true, false, cond, true≢false}
 use Prim.Native.Nat.{ℕ, zero, suc, _+_, _-_, _≤_, _<_}
 use native.Mathlib.Omega.{arith}
-use native.Mathlib.Decide.{decLt}
 use lib.Dec.{eqb, lit<}
 use lib.ListN.{length}
 use Rattle.laws.specs.Tests.{cond-by}
 use Rattle.laws.specs.All.{All, none, also, from, sumOver}
 use Rattle.laws.specs.Members.{Has, all-has, has-all, all-map, gather-has, has-below, all-pairs}
-use Rattle.record.specs.Layout.{fields, recordOf, cut}
+use Rattle.record.specs.Layout.{recordOf, cut}
 use Rattle.kinds.specs.declared.Kind.{Kind}
 use Rattle.kinds.specs.declared.Kind.the-variants as kind
 use Rattle.kinds.specs.Kinds.{countsTotal}
-use Rattle.table.specs.declared.Shape.{Shape}
 use Rattle.table.specs.Table.{shapeOf}
 use Rattle.items.specs.declared.Ref.{Ref}
 use Rattle.items.specs.declared.Ref.the-variants as ref
@@ -23,9 +21,7 @@ use Rattle.items.specs.Lists.{Items, listOf, countsOf, roomOf}
 use Rattle.answers.specs.declared.Answer.{Answer}
 use Rattle.answers.specs.declared.Answer.the-variants as answer
 use Rattle.answers.specs.Answers.{isTaken}
-use Rattle.checks.specs.declared.Fault.{Fault}
 use Rattle.checks.specs.declared.Fault.the-variants as fault
-use Rattle.checks.specs.Faults.{faultAt}
 use Rattle.rules.specs.Rules.{Applies, fieldsOf}
 use Rattle.rules.specs.Files.{itemCount}
 use Rattle.collector.specs.declared.Case.{Case}

@@ -1,18 +1,17 @@
--- What the spelling of a field means: each number from -999,999 to 9,999,999 has one spelling, and seven bytes are blank, the spelling of a
--- number, or refused. Assumes nothing.
-use mathlib.Core.Path.{_≡_, refl, _∙_, sym, ap, subst}
+-- What the spelling of a field means: each number from -999,999 to 9,999,999 has one spelling, of seven bytes, and what is read as a number is
+-- its spelling. Assumes nothing.
+use mathlib.Core.Path.{_≡_, _∙_, sym, ap, subst}
 use mathlib.Core.Logic.{_↔_}
 use mathlib.Core.List.{List, _++_}
-use Prim.Native.Nat.{ℕ, zero, suc, _+_, _-_}
+use Prim.Native.Nat.{ℕ, _+_, _-_}
 use native.Mathlib.Omega.{arith}
 use lib.Dec.{leb→le, le→leb}
 use lib.IntN.{ℤ, pos, negsuc, negℤ}
 use lib.Signed.{_≤ℤ_}
 use lib.ListN.{length, replicate, length-append, length-replicate}
-use Rattle.record.specs.declared.Content.{Content}
-use Rattle.record.specs.declared.Content.the-variants.{Blank, Number, Bad}
+use Rattle.record.specs.declared.Content.the-variants.{Blank, Number}
 use Rattle.record.specs.Spelling.{space, contentOf}
-use Rattle.record.specs.Spell.{token, spell, Spellable, ReadAs, IsSpelling}
+use Rattle.record.specs.Spell.{token, spell, Spellable}
 use Rattle.record.specs.Layout.{width}
 use Rattle.record_laws.specs.Reading.{token-fits, number-reads, SaysAll, says-all}
 
