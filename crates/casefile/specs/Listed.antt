@@ -38,7 +38,7 @@ use Rattle.rules_laws.specs.Spelled.{size-more}
 use Rattle.rules_laws.specs.Theorems.{answers}
 use Rattle.meaning.specs.Run.{Way, placeAt, backOf, moveAt, moveNo, moveBy, guardsOf}
 use Rattle.meaning.specs.Judged.{wayIn, waysInto, waysOf, Test, testsOf, Mark, marksOf, marked, root, stateAt, startOf}
-use Rattle.meaning.specs.Listed.{room, FieldFits, NumbersFit, Listed, refused, judged}
+use Rattle.meaning.specs.Listed.{room, ThirdFits, NumbersFit, Listed, refused, judged}
 use Rattle.meaning_laws.specs.Lists.{all-grid}
 use Rattle.meaning_laws.specs.Given.{facts}
 use Rattle.verdict.specs.Verdict as judge
@@ -49,22 +49,22 @@ use Rattle.casefile.specs.Answer.{answerAfter, answerOf}
 -- ---- a record
 
 -- a refusal that applies names a field, or a byte of one, that it may name
-field-fits : (x : Items) (bs : List ℕ) (a : Answer) → Applies x bs a → FieldFits a
-field-fits x bs answer.Taken w = absurd w
-field-fits x bs answer.NotARecord w = tt
-field-fits x bs answer.NoLineFeed w = tt
-field-fits x bs answer.NoSuchKind w = tt
-field-fits x bs (answer.Misspelled p) (f, k, l, b, e) = let (h, i) = bad-in bs f k b in (omega arith, omega (arith, b .0))
-field-fits x bs (answer.Misfilled f) (k, is, form, w) =
+third-fits : (x : Items) (bs : List ℕ) (a : Answer) → Applies x bs a → ThirdFits a
+third-fits x bs answer.Taken w = absurd w
+third-fits x bs answer.NotARecord w = tt
+third-fits x bs answer.NoLineFeed w = tt
+third-fits x bs answer.NoSuchKind w = tt
+third-fits x bs (answer.Misspelled p) (f, k, l, b, e) = let (h, i) = bad-in bs f k b in (omega arith, omega (arith, b .0))
+third-fits x bs (answer.Misfilled f) (k, is, form, w) =
     ⊎-elim (λ l. in-record fault.Missing (shapeOf k (recordOf bs)) bs f (tells-missing k (fieldsOf bs) f .1 (l .holds)))
     (λ (full, l). in-record fault.Extra (shapeOf k (recordOf bs)) bs f (tells-extra k (fieldsOf bs) f .1 (l .holds))) w
-field-fits x bs (answer.OutOfRange f) (k, is, l) = in-record fault.OutOfRange (shapeOf k (recordOf bs)) bs f (tells-outside k (fieldsOf bs) f .1 (l .holds))
-field-fits x bs answer.OutOfOrder w = tt
-field-fits x bs answer.NoRoom w = tt
-field-fits x bs (answer.NotThere f) (k, is, l) =
+third-fits x bs (answer.OutOfRange f) (k, is, l) = in-record fault.OutOfRange (shapeOf k (recordOf bs)) bs f (tells-outside k (fieldsOf bs) f .1 (l .holds))
+third-fits x bs answer.OutOfOrder w = tt
+third-fits x bs answer.NoRoom w = tt
+third-fits x bs (answer.NotThere f) (k, is, l) =
     in-record (fault.NotThere (countsOf x)) (shapeOf k (recordOf bs)) bs f (tells-there k (fieldsOf bs) f (countsOf x) .1 (l .holds))
-field-fits x bs (answer.Misplaced f) (is, w) = ⊎-elim (λ c. inl (c .1)) (λ m. inr (m .2)) w
-field-fits x bs answer.WrongWayIn w = tt
+third-fits x bs (answer.Misplaced f) (is, w) = ⊎-elim (λ c. inl (c .1)) (λ m. inr (m .2)) w
+third-fits x bs answer.WrongWayIn w = tt
 
 -- ---- a judgement
 
@@ -184,7 +184,7 @@ from-here (b ∷ rs) c m s e =
     cond-by (λ (r : Collected). Listed (answerAfter r)) (isTaken (t .answer)) {x = collectedFrom (t .case) (m + 1) rs} {y = record { case = t .case; answer = t .answer; taken = m }}
     (λ h. from-here rs (t .case) (m + 1) (sound-kept c b s) (omega (arith, size-more c b rs (taken-with c b h) (sound-is-kept s))))
     (λ h. rw h
-    (⊎-elim (λ k. absurd (true≢false (sym (k .0) ∙ h))) (λ k. refused m (t .answer) (omega (arith, within c s)) (field-fits (itemsOf c) b (t .answer) (k .applies)))
+    (⊎-elim (λ k. absurd (true≢false (sym (k .0) ∙ h))) (λ k. refused m (t .answer) (omega (arith, within c s)) (third-fits (itemsOf c) b (t .answer) (k .applies)))
     (answers c b s)))
 
 -- every file gets one of the listed results

@@ -8,6 +8,7 @@ use Prim.Native.Nat.{ℕ, zero, suc, _+_, _<_}
 use native.Mathlib.Omega.{arith}
 use lib.ListN.{getD, take}
 use lib.Seq.{append-snoc}
+use Rattle.laws.specs.Lowest.{neither-less}
 use Rattle.laws.specs.Tests.{cond-by}
 use Rattle.record.specs.Layout.{cut}
 use Rattle.answers.specs.declared.Answer.{Answer}
@@ -54,9 +55,6 @@ one-refusal : {ps rs : List (List ℕ)} {k j : ℕ} {a b : Answer} → Refused p
 one-refusal {ps} {rs} {k} {j} {a} {b} r q =
     let e : j ≡ k = neither-less (λ h. r .before j h b (q .first .applies)) (λ h. q .before k h a (r .first .applies)) in
     (e, first-one (spelledBy (ps ++ take k rs)) (getD rs k []) b a (subst (λ i. IsFirst (spelledBy (ps ++ take i rs)) (getD rs i []) b) e (q .first)) (r .first))
-  where
-    neither-less : {m n : ℕ} → (m < n → ⊥) → (n < m → ⊥) → m ≡ n
-    neither-less l g = omega arith
 
 -- collecting records, where one is refused: what it tells, and the case that it leaves
 stops : (rs ps : List (List ℕ)) (c : Case) (m : ℕ) → Sound c → itemsOf c ≡ spelledBy ps → isTaken (collectedFrom c m rs .answer) ≡ false →

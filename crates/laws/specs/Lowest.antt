@@ -11,6 +11,10 @@ unfoldable pub lowest : ℕ → ℕ → (ℕ → Bool) → ℕ
 lowest zero i t = i
 lowest (suc n) i t = cond (t i) i (lowest n (i + 1) t)
 
+-- two numbers neither of which is less are one: so there is one lowest
+pub neither-less : {m n : ℕ} → (m < n → ⊥) → (n < m → ⊥) → m ≡ n
+neither-less p q = omega arith
+
 -- t fails for the numbers from i to k - 1: what is looked for is looked for from k on
 abbrev pub From : (ℕ → Bool) → ℕ → ℕ → ℕ → Type 0
 From t n i k = lowest n i t ≡ lowest (i + n - k) k t

@@ -26,19 +26,19 @@ abbrev pub IsFieldByte : ℕ → Type 0
 IsFieldByte p = (1 ≤ p) × (p ≤ fields * width)
 
 -- a refusal names a field, or a byte of one, that it may name
-abbrev pub FieldFits : Answer → Type 0
-FieldFits Taken = ⊥
-FieldFits NotARecord = Unit {0}
-FieldFits NoLineFeed = Unit {0}
-FieldFits NoSuchKind = Unit {0}
-FieldFits (Misspelled p) = IsFieldByte p
-FieldFits (Misfilled f) = IsField f
-FieldFits (OutOfRange f) = IsField f
-FieldFits OutOfOrder = Unit {0}
-FieldFits NoRoom = Unit {0}
-FieldFits (NotThere f) = IsField f
-FieldFits (Misplaced f) = (f ≡ 0) ⊎ (f ≡ 4)
-FieldFits WrongWayIn = Unit {0}
+abbrev pub ThirdFits : Answer → Type 0
+ThirdFits Taken = ⊥
+ThirdFits NotARecord = Unit {0}
+ThirdFits NoLineFeed = Unit {0}
+ThirdFits NoSuchKind = Unit {0}
+ThirdFits (Misspelled p) = IsFieldByte p
+ThirdFits (Misfilled f) = IsField f
+ThirdFits (OutOfRange f) = IsField f
+ThirdFits OutOfOrder = Unit {0}
+ThirdFits NoRoom = Unit {0}
+ThirdFits (NotThere f) = IsField f
+ThirdFits (Misplaced f) = (f ≡ 0) ⊎ (f ≡ 4)
+ThirdFits WrongWayIn = Unit {0}
 
 -- an answer of a judgement names records taken, a place, and a move, a guard or a sentence that there may be
 abbrev pub NumbersFit : Judgement → Type 0
@@ -52,5 +52,5 @@ NumbersFit (RootUnmarked i) = i < roomOf kind.Sentence
 
 -- the three numbers are those of a refusal of a record, or of an answer of a judgement
 pub data Listed : Told → Type 0 where
-  refused : (k : ℕ) (a : Answer) → k ≤ room → FieldFits a → Listed (refusal k a)
+  refused : (k : ℕ) (a : Answer) → k ≤ room → ThirdFits a → Listed (refusal k a)
   judged : (a : Judgement) → NumbersFit a → Listed (numbersOf a)

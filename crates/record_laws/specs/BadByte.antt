@@ -9,6 +9,7 @@ use native.Mathlib.Omega.{arith}
 use lib.IntN.{ℤ}
 use lib.ListN.{length, replicate, take, drop, length-replicate, take-append-drop}
 use lib.Seq.{take-all}
+use Rattle.laws.specs.Lowest.{neither-less}
 use Rattle.record.specs.declared.Content.{Content}
 use Rattle.record.specs.declared.Content.the-variants.{Blank, Number, Bad}
 use Rattle.record.specs.Spelling.{space, contentOf}
@@ -37,7 +38,7 @@ well-starts : (bs : List ℕ) (k : ℕ) → WellFormed bs → Starts (take k bs)
 well-starts bs k w = (drop k bs, subst WellFormed (sym (take-append-drop k bs)) w)
 
 -- so no byte of it is bad
-pub well-has-none : (bs : List ℕ) (k : ℕ) → WellFormed bs → IsBadByte bs k → ⊥
+well-has-none : (bs : List ℕ) (k : ℕ) → WellFormed bs → IsBadByte bs k → ⊥
 well-has-none bs k w b = b .1 (well-starts bs (k + 1) w)
 
 -- there is one bad byte at most
@@ -45,10 +46,7 @@ not-before : (bs : List ℕ) (j k : ℕ) → IsBadByte bs j → IsBadByte bs k �
 not-before bs j k v w h = v .1 (starts-shorter bs (j + 1) k (omega arith) (w .0))
 
 pub one-bad-byte : (bs : List ℕ) (j k : ℕ) → IsBadByte bs j → IsBadByte bs k → j ≡ k
-one-bad-byte bs j k v w = neither (not-before bs j k v w) (not-before bs k j w v)
-  where
-    neither : (j < k → ⊥) → (k < j → ⊥) → j ≡ k
-    neither p q = omega arith
+one-bad-byte bs j k v w = neither-less (not-before bs j k v w) (not-before bs k j w v)
 
 -- and it is a byte of the field
 pub bad-within : (bs : List ℕ) (k : ℕ) → IsBadByte bs k → k < length bs
@@ -69,7 +67,7 @@ well-fine bs =
     ⊎-elim (λ e. subst IsFine (sym (ap contentOf e ∙ spaces-blank width 0)) tt) (λ (z, h). subst IsFine (sym (ap contentOf (h .0) ∙ spell-reads z)) tt)
 
 module _ (bs : List ℕ) (l : length bs ≡ width) where
-  -- seven bytes are well-formed, or have the bad byte that is told
+  -- seven bytes that say blank are spaces, and those of which no byte is told are well-formed
   blank-well : contentOf bs ≡ Blank → bs ≡ replicate width space
   blank-well e = blank-spaces bs e ∙ ap (λ k. replicate k space) l
 

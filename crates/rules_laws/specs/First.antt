@@ -8,7 +8,7 @@ use native.Mathlib.Omega.{arith}
 use lib.Dec.{leb, ltb}
 use lib.ListN.{length, getD}
 use borrow.Author.Tests.{eqb-false}
-use Rattle.laws.specs.Lowest.{lowest}
+use Rattle.laws.specs.Lowest.{lowest, neither-less}
 use Rattle.laws.specs.Tests.{Tells, cond-by, tells-lt, tells-le, tells-and, tells-or}
 use Rattle.record.specs.Layout.{recordLength, lineFeed, bytesAt, byteIn, recordOf}
 use Rattle.record_laws.specs.BadByte.{one-bad-byte}
@@ -225,12 +225,9 @@ answers-first c bs s =
 
 -- ---- there is one first
 
-neither-less : (m n : ℕ) → (m < n → ⊥) → (n < m → ⊥) → m ≡ n
-neither-less m n p q = omega arith
-
 lowest-one : (P : ℕ → Type 0) (f g : ℕ) → Lowest P f → Lowest P g → f ≡ g
 lowest-one P f g v w =
-    neither-less f g (λ h. w .before f h (v .holds)) (λ h. v .before g h (w .holds))
+    neither-less (λ h. w .before f h (v .holds)) (λ h. v .before g h (w .holds))
 
 both-ways : {A B C D E : Type 0} → (A → C → E) → (A → D → E) → (B → C → E) → (B → D → E) → A ⊎ B → C ⊎ D → E
 both-ways f g h k v w = ⊎-elim (λ a. ⊎-elim (f a) (g a) w) (λ b. ⊎-elim (h b) (k b) w) v
@@ -262,7 +259,7 @@ third-one x bs WrongWayIn g v w = refl
 pub first-one : (x : Items) (bs : List ℕ) (a b : Answer) → IsFirst x bs a → IsFirst x bs b → a ≡ b
 first-one x bs a b v w =
     let e : turnOf (numberOf a) ≡ turnOf (numberOf b) =
-    neither-less _ _ (λ h. w .earlier a h (v .applies)) (λ h. v .earlier b h (w .applies)) in
+    neither-less (λ h. w .earlier a h (v .applies)) (λ h. v .earlier b h (w .applies)) in
     third-one x bs a (thirdOf b) (v .applies) (renumbered x bs b (numberOf a) (sym e) (w .applies))
     ∙ ap (λ i. getD (testOrder (thirdOf b)) i Taken) e
     ∙ in-order b
