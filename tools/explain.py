@@ -23,6 +23,8 @@ BYTES = {
     "\0": "a NUL", "\t": "a tab", "\n": "a line feed", "\r": "a carriage return", " ": "a space",
     "+": "a plus", ",": "a comma", "-": "a minus", ".": "a point", "0": "a 0",
 }
+# A byte of a field by its place.
+ORDINALS = ["first", "second", "third", "fourth", "fifth", "sixth", "seventh"]
 # What a field has before its bad byte, and what may stand there in place of that.
 MAY_STAND = [
     (" {0,5}", "a space, a minus or 1 to 9; a 0 only as the field's last byte"),
@@ -176,7 +178,7 @@ def misspelled(records, where, bad):
     return [
         f"{named(thing)}:",
         *as_bytes(thing.bytes, bad),
-        f"byte {bad} is {called(thing.bytes[bad])}: byte {place + 1} of field {field}, {spelled(text)}",
+        f"byte {bad} is {called(thing.bytes[bad])}, the {ORDINALS[place]} byte of field {field}: {spelled(text)}",
         *(f"there may stand: {words}" for words in may),
         *([f"field {field} holds: {says}"] if says else []),
     ]
