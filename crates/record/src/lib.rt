@@ -62,11 +62,14 @@ fn read_field(part: &[u8]) -> Content
     let mut i = 0;
     while i < part.len() {
         if part[i] != b' ' {
-            return read_token(part, i);
+            break;
         }
         i += 1;
     }
-    Content::Blank
+    if i == part.len() {
+        return Content::Blank;
+    }
+    read_token(part, i)
 }
 
 // Reads what follows the spaces, from byte i on: a minus, a 0 or another digit.
@@ -75,14 +78,15 @@ fn read_token(part: &[u8], i: usize) -> Content
     ensures { λ r. ⌜ r ≡ contentFrom i (drop i (now (part .entry))) ⌝ }
 {
     let b = part[i];
-    let j = i + 1;
     if b == b'-' {
+        let j = i + 1;
         if j == part.len() {
             return Content::Bad(i as u32); // the minus itself
         }
         return read_number(part, j, true);
     }
     if b == b'0' {
+        let j = i + 1;
         if j == part.len() {
             return Content::Number(0);
         }

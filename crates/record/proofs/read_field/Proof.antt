@@ -2,6 +2,7 @@
 -- length. Assumes nothing.
 use borrow.Author.Needs.{needs}
 use mathlib.Core.Path.{_≡_, refl, _∙_, sym, ap}
+use mathlib.Core.Logic.{⊎-elim}
 use Prim.Native.Nat.{_-_, _≤_}
 use native.Mathlib.Omega.{arith}
 use lib.ListN.{length, drop, drop-of-length-le}
@@ -22,12 +23,6 @@ loop-holds c = (search needs, refl)
 shared-slice-read-if1 : tie.Need-shared-slice-read-if1 Inv-loop μ-loop
 shared-slice-read-if1 c = omega arith
 
-read-token-requires : tie.Need-read-token-requires Inv-loop μ-loop
-read-token-requires c κs = (omega arith, (search needs, c .if1 .taken))
-
-returns : tie.Need-returns Inv-loop μ-loop
-returns c = c .read-token .ensures ∙ sym (c .before .before .before .before .loop .inv .1)
-
 add-i : tie.Need-add-i Inv-loop μ-loop
 add-i c = omega arith
 
@@ -40,11 +35,19 @@ loop-again c =
     let l = c .before .before .before .loop in
     (omega arith, l .inv .1 ∙ ap (contentFrom (l .i)) (rest _ (l .i) (omega arith) (c .if1 .left)))
 
-returns-2 : tie.Need-returns-2 Inv-loop μ-loop
+returns : tie.Need-returns Inv-loop μ-loop
 unfolding contentFrom
-returns-2 c =
-    let l = c .before .loop in
+returns c =
+    let l = c .before .before .loop in
     sym (l .inv .1 ∙ ap (contentFrom (l .i)) (drop-of-length-le _ {i = l .i} (omega arith)))
+
+-- before the end the loop is left only at a byte that is no space
+read-token-requires : tie.Need-read-token-requires Inv-loop μ-loop
+read-token-requires c κs =
+    (omega arith, (search needs, ⊎-elim (λ w. absurd (omega (arith, w .left))) (λ w. w .2 .taken) (c .before .loop-test .came)))
+
+returns-2 : tie.Need-returns-2 Inv-loop μ-loop
+returns-2 c = c .read-token .ensures ∙ sym (c .before .before .before .loop .inv .1)
 
 pub read-field-spec : {M : Type 1} → statement M
 read-field-spec =
@@ -54,9 +57,9 @@ read-field-spec =
     μ-loop
     loop-holds
     shared-slice-read-if1
-    read-token-requires
-    returns
     add-i
     loop-less
     loop-again
+    returns
+    read-token-requires
     returns-2)

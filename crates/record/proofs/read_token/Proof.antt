@@ -31,8 +31,8 @@ after-zero : (c : tie.Then3) → let a = c .before .before .before .before .args
 unfolding contentFrom
 after-zero c = at-byte (c .before .before .before .before) (c .if3 .taken)
 
-cast-t10 : tie.Need-cast-t10
-cast-t10 c = omega arith
+cast-t11 : tie.Need-cast-t11
+cast-t11 c = omega arith
 
 returns : tie.Need-returns
 unfolding negative
@@ -49,14 +49,17 @@ returns-2 c =
     let i = c .before .before .before .before .before .args .i in
     c .read-number .ensures ∙ sym (after-minus (c .before .before) ∙ ap (negative i) (rest _ (i + 1) (omega arith) refl))
 
+add-j-2 : tie.Need-add-j-2
+add-j-2 c = omega arith
+
 returns-3 : tie.Need-returns-3
 unfolding alone
 returns-3 c =
     let i = c .before .before .before .before .before .args .i in
     sym (after-zero (c .before) ∙ ap (alone i) (drop-of-length-le _ {i = i + 1} (omega arith)))
 
-cast-t13 : tie.Need-cast-t13
-cast-t13 c = omega arith
+cast-t14 : tie.Need-cast-t14
+cast-t14 c = omega arith
 
 returns-4 : tie.Need-returns-4
 unfolding alone
@@ -78,12 +81,13 @@ read-token-spec =
     (tie.spec
     shared-slice-read-b
     add-j
-    cast-t10
+    cast-t11
     returns
     read-number-requires
     returns-2
+    add-j-2
     returns-3
-    cast-t13
+    cast-t14
     returns-4
     read-number-requires-2
     returns-5)
