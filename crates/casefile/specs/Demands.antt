@@ -17,7 +17,7 @@ use Prim.Native.Nat.{ℕ, _+_, _*_, _≤_}
 use lib.IntN.{ℤ}
 use lib.Signed.{_≤ℤ_}
 use lib.ListN.{length, getD, take}
-use Rattle.record.specs.Layout.{fields, recordLength, bytesAt, byteIn, cut}
+use Rattle.record.specs.Layout.{fields, recordLength, bytesAt, cut}
 use Rattle.record.specs.Spell.{IsSpelling, ReadAs}
 use Rattle.kinds.specs.declared.Kind.{Kind}
 use Rattle.kinds.specs.declared.Kind.the-variants as kind
@@ -27,7 +27,7 @@ use Rattle.items.specs.Lists.{listOf}
 use Rattle.answers.specs.declared.Answer.{Answer}
 use Rattle.answers.specs.declared.Judgement.{Judgement}
 use Rattle.answers.specs.Answers.{isTaken, refusal, numbersOf}
-use Rattle.rules.specs.Rules.{contentAt, BadAt, HasBad, Lowest}
+use Rattle.rules.specs.Rules.{contentAt, BadPlace}
 use Rattle.rules.specs.Files.{rowsOf, spelledBy, spelled, AllTaken, Refused}
 use Rattle.collector.specs.declared.Case.{Case}
 use Rattle.collector.specs.Cases.{emptyCase, itemsOf}
@@ -64,10 +64,8 @@ pub record Demand1 : Type 0 where
   -- where that is refusal a of record k, the numbers are those of a and k, and the case that is held is the one that the records before k spell
   pub stopped : (bs : List ℕ) (k : ℕ) (a : Answer) → Refused [] (cut bs) k a →
       (answerOf bs ≡ refusal k a) × (itemsOf (collectedOf emptyCase bs .case) ≡ spelledBy (take k (cut bs)))
-  -- where the result is 14, the third number is the place in the record of the bad byte of its lowest field that has one
-  pub misspelled : (bs : List ℕ) → answerOf bs .result ≡ 14 →
-      let b = getD (cut bs) (answerOf bs .second) [] in
-      (f : ℕ) × (k : ℕ) × Lowest (HasBad b) f × BadAt b f k × (answerOf bs .third ≡ byteIn f k)
+  -- where the result is 14, the third number is the place, in the record that the second names, of the bad byte of its lowest field that has one
+  pub misspelled : (bs : List ℕ) → answerOf bs .result ≡ 14 → BadPlace (getD (cut bs) (answerOf bs .second) []) (answerOf bs .third)
   -- a field of a record is read by all its seven bytes: blank exactly where they are spaces, a number exactly where they are its spelling, bad at a byte exactly
   -- where that is their bad byte
   pub read : (b : List ℕ) → length b ≡ recordLength → (f : ℕ) → 1 ≤ f → f ≤ fields → ReadAs (bytesAt b f) (contentAt b f)

@@ -10,7 +10,7 @@ use lib.Dec.{eqb}
 use lib.ListN.{getD}
 use borrow.Author.Tests.{eq-eqb}
 use Rattle.laws.specs.Lowest.{lowest}
-use Rattle.record.specs.Layout.{byteIn, cut}
+use Rattle.record.specs.Layout.{cut}
 use Rattle.kinds.specs.declared.Kind.{Kind}
 use Rattle.counters.specs.Sum.{Valuation}
 use Rattle.items.specs.Items.{rowOf}
@@ -20,7 +20,7 @@ use Rattle.answers.specs.declared.Judgement.{Judgement}
 use Rattle.answers.specs.declared.Judgement.the-variants.{Accepted, Unfinished, WrongStart, Unconnected, GuardFails, WrongMark, RootUnmarked}
 use Rattle.answers.specs.Answers.{numberOf, turnOf, isTaken, numbersOf}
 use Rattle.answers.specs.Laws.{taken-is}
-use Rattle.rules.specs.Rules.{BadAt, HasBad, Lowest}
+use Rattle.rules.specs.Rules.{BadPlace}
 use Rattle.rules.specs.Files.{rowsOf, spelled, AllTaken}
 use Rattle.collector.specs.Cases.{emptyCase, itemsOf}
 use Rattle.collector.specs.Taking.{collectedOf}
@@ -143,9 +143,7 @@ judged-otherwise (RootUnmarked r) e = omega arith
 
 -- the third number of t is the place of the bad byte of the record that its second number names, one of the file bs
 abbrev NamesBad : List ℕ → Told → Type 0
-NamesBad bs t =
-    let b = getD (cut bs) (t .second) [] in
-    (f : ℕ) × (k : ℕ) × Lowest (HasBad b) f × BadAt b f k × (t .third ≡ byteIn f k)
+NamesBad bs t = BadPlace (getD (cut bs) (t .second) []) (t .third)
 
 pub names-bad : (bs : List ℕ) → answerOf bs .result ≡ 14 → NamesBad bs (answerOf bs)
 unfolding lowest

@@ -105,6 +105,10 @@ pub record Lowest (P : ℕ → Type 0) (f : ℕ) : Type 0 where
   pub holds : P f
   pub before : (g : ℕ) → g < f → P g → ⊥
 
+-- p is the place in the record of the bad byte of its lowest field that has one
+abbrev pub BadPlace : List ℕ → ℕ → Type 0
+BadPlace bs p = (f : ℕ) × (k : ℕ) × Lowest (HasBad bs) f × BadAt bs f k × (p ≡ byteIn f k)
+
 -- ---- a case
 
 -- the loop mark of place p
@@ -157,7 +161,7 @@ Applies x bs Taken = ⊥
 Applies x bs NotARecord = length bs ≡ recordLength → ⊥
 Applies x bs NoLineFeed = getD bs (recordLength - 1) 0 ≡ lineFeed → ⊥
 Applies x bs NoSuchKind = (k : Kind) → IsA k bs → ⊥
-Applies x bs (Misspelled p) = (f : ℕ) × (k : ℕ) × Lowest (HasBad bs) f × BadAt bs f k × (p ≡ byteIn f k)
+Applies x bs (Misspelled p) = BadPlace bs p
 Applies x bs (Misfilled f) =
     (k : Kind)
     × IsA k bs

@@ -117,7 +117,7 @@ module _ (f : Fault) (s : Shape) (bs : List ℕ) where
 
 -- ---- answers by their numbers
 
--- the answer with number n and field f; Taken where no refusal has that number
+-- the answer with number n and third number f; Taken where no refusal has that number
 abbrev pub numbered : ℕ → ℕ → Answer
 numbered n f = getD (testOrder f) (turnOf n) Taken
 
