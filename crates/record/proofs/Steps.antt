@@ -4,9 +4,10 @@ use mathlib.Core.Bool.{Bool, true, false, _&&_}
 use mathlib.Core.List.{List, _∷_}
 use Prim.Native.Nat.{ℕ, _+_, _-_, _*_, _<_, _≤_}
 use native.Mathlib.Numerals.{add-one}
+use lib.Dec.{ltb}
 use lib.ListN.{length, getD, drop}
 use lib.Seq.{drop-cons}
-use borrow.Author.Tests.{ne-eqb, le-leb, lt-leb}
+use borrow.Author.Tests.{ne-eqb, le-leb, lt-leb, ltb-true, ltb-false}
 use Rattle.record.specs.declared.Content.the-variants.{Bad}
 use Rattle.record.specs.Spelling.{space, minus, digit, digitFrom, digits, leading, contentFrom}
 
@@ -14,9 +15,9 @@ use Rattle.record.specs.Spelling.{space, minus, digit, digitFrom, digits
 pub rest : (p : List ℕ) (i : ℕ) {b : ℕ} → i < length p → getD p i 0 ≡ b → drop i p ≡ b ∷ drop (i + 1) p
 rest p i h e = rw (add-one, drop-cons p i 0, e)
 
--- a byte from the digit d to 9, one below, one above
-pub is-digit : (d b : ℕ) → digit d ≤ b → b ≤ digit 9 → digitFrom d b ≡ true
-is-digit d b l h = simp (le-leb (digit d) b l, le-leb b (digit 9) h)
+-- a byte from the digit d to 9, one below, one above, as the code tests them
+pub is-digit : (d b : ℕ) → digit d ≤ b → ltb (digit 9) b ≡ false → digitFrom d b ≡ true
+is-digit d b l h = simp (le-leb (digit d) b l, le-leb b (digit 9) (ltb-false (digit 9) b h))
 
 pub too-low : (d b : ℕ) → b < digit d → digitFrom d b ≡ false
 too-low d b h = simp (lt-leb (digit d) b h)
@@ -25,8 +26,8 @@ and-false : (t : Bool) → t && false ≡ false
 and-false true = refl
 and-false false = refl
 
-pub too-high : (d b : ℕ) → digit 9 < b → digitFrom d b ≡ false
-too-high d b h = simp (lt-leb b (digit 9) h, and-false)
+pub too-high : (d b : ℕ) → ltb (digit 9) b ≡ true → digitFrom d b ≡ false
+too-high d b h = simp (lt-leb b (digit 9) (ltb-true (digit 9) b h), and-false)
 
 -- in a number: byte i is a digit, or none
 module _ (s : Bool) (n : ℕ) (p : List ℕ) (i : ℕ) (h : i < length p) where

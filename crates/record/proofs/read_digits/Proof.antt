@@ -5,7 +5,7 @@ use mathlib.Core.Bool.{Bool}
 use mathlib.Core.Logic.{⊎-elim}
 use Prim.Native.Nat.{_-_, _≤_, _<_, _^_}
 use native.Mathlib.Omega.{arith}
-use borrow.Author.Tests.{ltb-true, ltb-false}
+use borrow.Author.Tests.{ltb-false}
 use lib.ListN.{length, getD, drop, drop-of-length-le}
 use mir.Syntax.{w32}
 use mir.Val.{hbits}
@@ -41,7 +41,7 @@ returns : tie.Need-returns Inv-loop μ-loop
 returns c =
     let l = c .before .before .before .loop in
     let b = getD (c .before .before .before .before .args .part .now) (l .j) 0 in
-    let none = ⊎-elim (λ w. too-low 0 b (w .taken)) (λ w. too-high 0 b (ltb-true (digit 9) b (w .1 .taken))) (c .if1 .came) in
+    let none = ⊎-elim (λ w. too-low 0 b (w .taken)) (λ w. too-high 0 b (w .1 .taken)) (c .if1 .came) in
     sym (l .inv .1 .0 ∙ digits-bad _ _ _ (l .j) (omega arith) none)
 
 -- the byte is a digit
@@ -66,7 +66,7 @@ loop-less c = omega arith
 loop-again : tie.Need-loop-again Inv-loop μ-loop
 loop-again c =
     let l = c .before .before .before .before .loop in
-    let d = is-digit 0 _ (c .before .if1 .left) (at-most c) in
+    let d = is-digit 0 _ (c .before .if1 .left) (c .if2 .left) in
     (omega arith, (l .inv .1 .0 ∙ digits-more _ _ _ (l .j) (omega arith) d, omega (arith, at-most c, pow-more (l .j), l .inv .1 .1)))
 
 -- past the last byte: the number fits, and it is what the whole says

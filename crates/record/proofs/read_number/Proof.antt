@@ -1,6 +1,6 @@
 -- `record::read_number` meets its contract. Assumes nothing.
 use borrow.Author.Needs.{needs}
-use borrow.Author.Tests.{ltb-true, ltb-false}
+use borrow.Author.Tests.{ltb-false}
 use mathlib.Core.Path.{_∙_, sym}
 use mathlib.Core.Logic.{⊎-elim}
 use Prim.Native.Nat.{_≤_}
@@ -22,7 +22,7 @@ returns : tie.Need-returns
 returns c =
     let a = c .before .before .before .args in
     let b = getD (a .part .now) (a .at) 0 in
-    let none = ⊎-elim (λ w. too-low 1 b (w .taken)) (λ w. too-high 1 b (ltb-true (digit 9) b (w .1 .taken))) (c .if1 .came) in
+    let none = ⊎-elim (λ w. too-low 1 b (omega (arith, w .taken))) (λ w. too-high 1 b (w .1 .taken)) (c .if1 .came) in
     sym (leading-bad _ _ _ _ none)
 
 -- the byte is a digit
@@ -44,7 +44,7 @@ read-digits-requires c κs =
     (search needs, (search needs, omega (arith, at-most c, pow-one i, pow-more i)))
 
 returns-2 : tie.Need-returns-2
-returns-2 c = c .read-digits .ensures ∙ sym (leading-more _ _ _ _ (is-digit 1 _ (c .before .before .if1 .left) (at-most (c .before))))
+returns-2 c = c .read-digits .ensures ∙ sym (leading-more _ _ _ _ (is-digit 1 _ (c .before .before .if1 .left) (c .before .if2 .left)))
 
 pub read-number-spec : {M : Type 1} → statement M
 read-number-spec =
