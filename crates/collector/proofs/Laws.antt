@@ -5,7 +5,7 @@ use mathlib.Core.List.{List, [], _∷_}
 use Prim.Native.Nat.{ℕ, zero, suc, _+_, _-_, _<_, _≤_, min}
 use native.Mathlib.Omega.{arith}
 use lib.Dec.{eqb, leb}
-use lib.ListN.{length, take, drop, getD, length-drop, drop-of-length-le}
+use lib.ListN.{length, take, drop, set, getD, length-drop, drop-of-length-le}
 use lib.Seq.{take-all, take-length, drop-length, drop-drop}
 use borrow.Author.Tests.{eqb-true, ne-eqb, leb-true, leb-false}
 use Rattle.laws.specs.Lowest.{lowest}
@@ -14,7 +14,9 @@ use Rattle.record.specs.Layout.{recordLength, recordOf, lineFeed, cutFrom, cut}
 use Rattle.kinds.specs.declared.Kind.{Kind}
 use Rattle.kinds.specs.declared.Letter.{Letter}
 use Rattle.kinds.specs.declared.Letter.the-variants.{Names, Unknown}
-use Rattle.kinds.specs.Kinds.{kindOf}
+use Rattle.kinds.specs.declared.Kind.the-variants as kind
+use Rattle.kinds.specs.Kinds.{countOf, kindOf}
+use Rattle.items.specs.Items.{itemOf, placeOf}
 use Rattle.checks.specs.declared.Head.{Head}
 use Rattle.checks.specs.declared.Head.the-variants.{Of, Refused}
 use Rattle.answers.specs.declared.Answer.{Answer}
@@ -22,11 +24,11 @@ use Rattle.answers.specs.declared.Answer.the-variants.{Taken, NotARecord, NoLin
 use Rattle.answers.specs.Answers.{numberOf, thirdOf, testOrder, turnOf, isTaken}
 use Rattle.answers.specs.Laws.{in-order, taken-is}
 use Rattle.checks.specs.Input.{namedHead, endedHead, headOf}
-use Rattle.standing.specs.Standing.{recordAnswer}
+use Rattle.standing.specs.Standing.{loopsAfter, isLoopEnd, recordAnswer}
 use Rattle.collector.specs.declared.Case.{Case}
 use Rattle.collector.specs.declared.Result.{Result}
 use Rattle.collector.specs.declared.Collected.{Collected}
-use Rattle.collector.specs.Cases.{with}
+use Rattle.collector.specs.Cases.{changed, arraysOf, caseBy, oneMore, roundFrom, with}
 use Rattle.collector.specs.Taking.{takenAs, takenBy, takenOf, collectedFrom, collectedOf}
 
 -- ---- the records of a file: none at its end, and else the next one and the rest
@@ -100,6 +102,20 @@ fair bs h e = subst (Fair bs) e (fair-cut bs _ refl)
 abbrev pub stored : Case → Kind → Record → Case
 stored c k r = with c k (r .fields)
 
+-- the case with the place that a record says, where it closes a loop or not
+abbrev placed : Case → Record → Bool → Case
+placed c r t =
+    let n = c .count in
+    let p = n .places in
+    let l = loopsAfter (c .loops) p (placeOf (r .fields) .mark) in
+    let q = l .first .0 in
+    let a = changed kind.Place (λ j l. set l (countOf n j) (itemOf j (r .fields))) (arraysOf c) in
+    caseBy (oneMore n kind.Place) l (cond t (set (c .drifts) q (roundFrom a q p)) (c .drifts)) a
+
+pub stored-place : (c : Case) (r : Record) (t : Bool) →
+    isLoopEnd (loopsAfter (c .loops) (c .count .places) (placeOf (r .fields) .mark)) (c .count .places) ≡ t → stored c kind.Place r ≡ placed c r t
+stored-place c r t e = ap (placed c r) e
+
 -- what the records give where the next is r, of kind k, and is answered a, which takes it or not
 abbrev pub step : Case → ℕ → List (List ℕ) → Kind → Record → Answer → Bool → Collected
 step c m rs k r a t = cond t (collectedFrom (cond t (stored c k r) c) (m + 1) rs) (record { case = cond t (stored c k r) c; answer = a; taken = m })
@@ -108,7 +124,7 @@ step c m rs k r a t = cond t (collectedFrom (cond t (stored c k r) c) (m + 1) rs
 abbrev after : ℕ → List (List ℕ) → Result → Bool → Collected
 after m rs x t = cond t (collectedFrom (x .case) (m + 1) rs) (record { case = x .case; answer = x .answer; taken = m })
 
-pub collected-next : (c : Case) (m : ℕ) (bs : List ℕ) (rs : List (List ℕ)) (k : Kind) (r : Record) (a : Answer) (t : Bool) → headOf bs ≡ Of k → r ≡ recordOf bs → a ≡ recordAnswer (c .count) (c .derived .loops) k r → isTaken a ≡ t → collectedFrom c m (bs ∷ rs) ≡ step c m rs k r a t
+pub collected-next : (c : Case) (m : ℕ) (bs : List ℕ) (rs : List (List ℕ)) (k : Kind) (r : Record) (a : Answer) (t : Bool) → headOf bs ≡ Of k → r ≡ recordOf bs → a ≡ recordAnswer (c .count) (c .loops) k r → isTaken a ≡ t → collectedFrom c m (bs ∷ rs) ≡ step c m rs k r a t
 unfolding collectedFrom takenOf takenAs
 collected-next c m bs rs k r a t ek er ea et =
     ap (λ h. after m rs (takenBy c h bs) (isTaken (takenBy c h bs .answer))) ek

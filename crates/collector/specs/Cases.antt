@@ -1,17 +1,26 @@
--- A case: the one that holds given items, the empty one, and one with one item more; and what is kept beside the items.
+-- A case: the one that holds given items, with what follows from them and is kept beside them; the empty one; and one with one item more.
 use mathlib.Core.List.{List, [], _∷_, _++_}
-use mathlib.Core.Bool.{cond}
-use Prim.Native.Nat.{_+_, _-_}
+use mathlib.Core.Bool.{cond, _&&_}
+use Prim.Native.Nat.{ℕ, _+_, _-_}
+use lib.Dec.{leb}
+use lib.IntN.{pos}
 use lib.ListN.{length, take, set, replicate}
+use Rattle.laws.specs.Tab.{tab}
 use Rattle.record.specs.declared.Field.{Field}
 use Rattle.kinds.specs.declared.Kind.{Kind}
 use Rattle.kinds.specs.declared.Kind.the-variants as kind
 use Rattle.kinds.specs.declared.Counts.{Counts}
 use Rattle.kinds.specs.Kinds.{countOf, countsBy, same}
+use Rattle.items.specs.declared.Ref.{Ref}
+use Rattle.items.specs.declared.Ref.the-variants as ref
 use Rattle.items.specs.Items.{Item, itemOf, placeOf}
 use Rattle.items.specs.Lists.{itemsBy, Items, roomOf, noItem, listOf, countsOf}
-use Rattle.standing.specs.Standing.{noLoops, loopsAfter, loopsFrom}
-use Rattle.collector.specs.declared.Derived.{Derived}
+use Rattle.counters.specs.declared.Counters.{Counters}
+use Rattle.counters.specs.Vectors.{vecOf}
+use Rattle.rules.specs.Rules.{endAt}
+use Rattle.meaning.specs.Drift.{aroundBy, drift}
+use Rattle.standing.specs.declared.Loops.{Loops}
+use Rattle.standing.specs.Standing.{noLoops, loopsAfter, loopsFrom, isLoopEnd}
 use Rattle.collector.specs.declared.Case.{Case}
 
 -- ---- items
@@ -26,18 +35,20 @@ added x k r = changed k (λ j l. l ++ (itemOf j r ∷ [])) x
 
 -- ---- the case
 
--- what follows from the items and is kept beside them
-abbrev pub derivedOf : Items → Derived
-derivedOf x = record { loops = loopsFrom noLoops 0 (x .places) }
+-- the number of the move that a reference names, and one past the room for moves where it names none
+abbrev pub slotOf : Ref → ℕ
+slotOf ref.None = roomOf kind.Move
+slotOf (ref.At t) = t
 
--- the same after one item more, of kind k and the row r, where n counts those before it
-abbrev pub derivedAfter : Derived → Counts → Kind → List Field → Derived
-derivedAfter d n k r = record { loops = cond (same k kind.Place) (loopsAfter (d .loops) (n .places) (placeOf r .mark)) (d .loops) }
+-- the drift of each loop that has closed, with the loop's first place; 0 with every other place
+unfoldable pub driftsOf : Items → List Counters
+driftsOf x =
+    tab (roomOf kind.Place) 0 (λ q. vecOf (λ j. cond (leb (endAt (x .places) q) (length (x .places))) (drift x j q) (pos 0)))
 
--- a case with these counts, derived data and arrays
-abbrev pub caseBy : Counts → Derived → Items → Case
-caseBy n d a =
-    record { count = n; derived = d; states = a .states; guards = a .guards; moves = a .moves; sentences = a .sentences; places = a .places }
+-- a case with these counts, loops, drifts and arrays
+abbrev pub caseBy : Counts → Loops → List Counters → Items → Case
+caseBy n l d a =
+    record { count = n; loops = l; drifts = d; states = a .states; guards = a .guards; moves = a .moves; sentences = a .sentences; places = a .places }
 
 -- the arrays of a case
 abbrev pub arraysOf : Case → Items
@@ -49,7 +60,7 @@ filled x k = listOf k x ++ replicate (roomOf k - length (listOf k x)) (noItem k)
 
 -- the case that holds these items
 abbrev pub caseOf : Items → Case
-caseOf x = caseBy (countsOf x) (derivedOf x) (itemsBy (filled x))
+caseOf x = caseBy (countsOf x) (loopsFrom noLoops 0 (x .places)) (driftsOf x) (itemsBy (filled x))
 
 -- what a case holds, without the room that is left
 abbrev pub itemsOf : Case → Items
@@ -59,12 +70,30 @@ itemsOf c = itemsBy (λ k. take (countOf (c .count) k) (listOf k (arraysOf c)))
 unfoldable pub emptyCase : Case
 emptyCase = caseOf (itemsBy (λ k. []))
 
+-- ---- one item more
+
 -- the counts with one item of kind k more
 abbrev pub oneMore : Counts → Kind → Counts
 oneMore n k = countsBy (λ j. cond (same k j) (countOf n j + 1) (countOf n j))
+
+-- the loops after an item of kind k and the row r, where n counts those before it: a place may begin one
+abbrev pub loopsWith : Loops → Counts → Kind → List Field → Loops
+loopsWith l n k r = cond (same k kind.Place) (loopsAfter l (n .places) (placeOf r .mark)) l
+
+-- what a round adds of a loop from place q to place n
+abbrev pub roundFrom : Items → ℕ → ℕ → Counters
+roundFrom x q n = vecOf (λ j. aroundBy x j q (n - q))
+
+-- the drifts after an item of kind k, where the loops after it are l, the arrays a, and n counts the items before it: the last place of a loop closes it
+abbrev pub driftsWith : List Counters → Loops → Items → Counts → Kind → List Counters
+driftsWith d l a n k =
+    let q = l .first .0 in
+    cond (same k kind.Place && isLoopEnd l (n .places)) (set d q (roundFrom a q (n .places))) d
 
 -- the case with the item of kind k that the row r becomes, stored and counted
 abbrev pub with : Case → Kind → List Field → Case
 with c k r =
     let n = c .count in
-    caseBy (oneMore n k) (derivedAfter (c .derived) n k r) (changed k (λ j l. set l (countOf n j) (itemOf j r)) (arraysOf c))
+    let l = loopsWith (c .loops) n k r in
+    let a = changed k (λ j l. set l (countOf n j) (itemOf j r)) (arraysOf c) in
+    caseBy (oneMore n k) l (driftsWith (c .drifts) l a n k) a

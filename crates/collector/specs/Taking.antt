@@ -25,7 +25,7 @@ refusalOf (Refused a) = a
 -- taking the record r of kind k: its item is stored where it is taken, and else nothing changes
 unfoldable pub takenAs : Case → Kind → Record → Result
 takenAs c k r =
-    let a = recordAnswer (c .count) (c .derived .loops) k r in
+    let a = recordAnswer (c .count) (c .loops) k r in
     record { case = cond (isTaken a) (with c k (r .fields)) c; answer = a }
 
 -- taking a record by its head: 11 to 13, or its kind

@@ -1,13 +1,15 @@
 // A case, and its collector: a record's bytes become the next item of their kind, or are refused and nothing changes.
 ghost use mathlib.Core.Path.{_≡_};
-ghost use Prim.Native.Nat.{_+_, _-_, _≤_, min};
+ghost use Prim.Native.Nat.{_+_, _-_, _≤_, _<_, min};
 ghost use Rattle.record.specs.Layout.{recordLength};
 ghost use Rattle.kinds.specs.declared.Kind.the-variants as kind;
-ghost use Rattle.items.specs.Lists.{noItem};
-ghost use Rattle.collector.specs.Cases.{emptyCase};
+ghost use Rattle.items.specs.Lists.{roomOf, noItem};
+ghost use Rattle.meaning.specs.Run.{backOf};
+ghost use Rattle.collector.specs.Cases.{slotOf, arraysOf, emptyCase, roundFrom};
 ghost use Rattle.collector.specs.Taking.{refusalOf, takenOf, collectedOf};
 use answers::Answer;
 use checks::Head;
+use counters::Counters;
 use items::Form;
 use items::Guard;
 use items::LoopMark;
@@ -26,15 +28,12 @@ use record::Field;
 use record::Record;
 use standing::Loops;
 
-// What follows from the items of a case and is kept beside them.
-pub struct Derived {
-    pub loops: Loops,
-}
-
-// A case: the items of each kind, how many there are, and what follows from them.
+// A case: the items of each kind and how many there are, and what follows from them and is kept beside them: the last loop, and what a round of each
+// closed loop adds to each counter, with the loop's first place.
 pub struct Case {
     pub count: Counts,
-    pub derived: Derived,
+    pub loops: Loops,
+    pub drifts: [Counters; Case::PLACES],
     pub states: [State; Case::STATES],
     pub guards: [Guard; Case::GUARDS],
     pub moves: [Move; Case::MOVES],
@@ -62,6 +61,31 @@ fn refusal(head: Head) -> Answer
     match head {
         Head::Of(_) => Answer::Taken,
         Head::Refused(answer) => answer,
+    }
+}
+
+// The number of the move that a reference names, and one past the room for moves where it names none.
+pub fn slot(r: Ref) -> usize
+    ensures { λ t. ⌜ t ≡ slotOf r ⌝ }
+{
+    match r {
+        Ref::None => Case::MOVES,
+        Ref::At(t) => t as usize,
+    }
+}
+
+// The back move of a loop.
+pub fn back_of(m: LoopMark) -> Ref
+    ensures { λ r. ⌜ r ≡ backOf m ⌝ }
+{
+    match m {
+        LoopMark::None => Ref::None,
+        LoopMark::Counted {
+            length: _,
+            rounds: _,
+            back,
+        } => Ref::At(back),
+        LoopMark::Endless { length: _, back } => Ref::At(back),
     }
 }
 
@@ -112,12 +136,12 @@ impl Case {
         ensures { λ r. ⌜ r ≡ emptyCase ⌝ }
     {
         let count = Counts::none();
-        let derived = Derived {
-            loops: Loops {
-                end: PlaceNo(0),
-                endless: false,
-            },
+        let loops = Loops {
+            first: PlaceNo(0),
+            end: PlaceNo(0),
+            endless: false,
         };
+        let drifts = [counters::zero(); Case::PLACES];
         let states = [State { propositions: 0 }; Case::STATES];
         let guards = [no_guard(); Case::GUARDS];
         let blank = Field {
@@ -131,13 +155,43 @@ impl Case {
         let places = [no_place(); Case::PLACES];
         Case {
             count: count,
-            derived: derived,
+            loops: loops,
+            drifts: drifts,
             states: states,
             guards: guards,
             moves: moves,
             sentences: sentences,
             places: places,
         }
+    }
+
+    // What a round adds of a loop from place q to place n: its back move, and the ways into its places but the first.
+    fn round_from(self, q: usize, n: usize) -> Counters
+        requires { ⌜ (q ≤ n) × (n < roomOf kind.Place) ⌝ }
+        ensures { λ r. ⌜ r ≡ roundFrom (arraysOf self) q n ⌝ }
+    {
+        let moves = self.moves;
+        let places = self.places;
+        let place = places[q];
+        let mark = place.mark;
+        let mut v = counters::zero();
+        let mut t = slot(back_of(mark));
+        if t < Case::MOVES {
+            let m = moves[t];
+            v = counters::plus(v, m.updates);
+        }
+        let mut p = q;
+        while p < n {
+            let place = places[p + 1];
+            let way = place.way;
+            t = slot(way);
+            if t < Case::MOVES {
+                let m = moves[t];
+                v = counters::plus(v, m.updates);
+            }
+            p = p + 1;
+        }
+        v
     }
 
     // Takes the records of a file in order, up to the first that is refused.
@@ -157,7 +211,7 @@ impl Case {
                 };
             };
             let row = Record::read(&src[at..e]);
-            let answer = standing::answer_of(self.count, self.derived.loops, kind, row);
+            let answer = standing::answer_of(self.count, self.loops, kind, row);
             if answers::is_taken(answer) {
                 match kind {
                     Kind::State => {
@@ -190,9 +244,14 @@ impl Case {
                         self.places[n] = place;
                         self.count.places = n + 1;
                         let mark = place.mark;
-                        let loops = self.derived.loops.after(n, mark);
-                        let derived = Derived { loops: loops };
-                        self.derived = derived;
+                        let loops = self.loops.after(n, mark);
+                        self.loops = loops;
+                        if loops.ends_at(n) {
+                            let first = loops.first;
+                            let q = first.0;
+                            let sums = self.round_from(q, n);
+                            self.drifts[q] = sums;
+                        }
                     }
                 }
             } else {

@@ -1,3 +1,4 @@
 pub mod Sum
 pub mod Vectors
+pub mod Values
 pub mod Bounds

@@ -5,7 +5,8 @@ use Prim.Native.Nat.{ℕ, zero, suc, _+_, _≤_, _<_}
 use native.Mathlib.Omega.{arith}
 use lib.IntN.{ℤ, pos, _+ℤ_, _*ℤ_, +ℤ-assoc, +ℤ-idl, +ℤ-idr}
 use lib.ListN.{length, getD, take}
-use Rattle.laws.specs.Tab.{tab, at-tab}
+use Rattle.laws.specs.Tab.{tab, entry, tab-same}
+use Rattle.kinds.specs.declared.PerCounter.{PerCounter}
 use Rattle.kinds.specs.Kinds.{counters}
 use Rattle.counters.specs.declared.Counters.{Counters}
 use Rattle.counters.specs.Sum.{sum}
@@ -14,9 +15,17 @@ use Rattle.counters.specs.Sum.{sum}
 abbrev pub valueAt : Counters → ℕ → ℤ
 valueAt v j = getD (v .at) j (pos 0)
 
+-- the number of an item for counter j
+abbrev pub numberAt : PerCounter → ℕ → ℤ
+numberAt u j = getD (u .at) j (pos 0)
+
 -- the values f j
 abbrev pub vec : (ℕ → ℤ) → List ℤ
 vec f = tab counters 0 f
+
+-- the same as counters
+abbrev pub vecOf : (ℕ → ℤ) → Counters
+vecOf f = record { at = vec f }
 
 -- the sum over one counter more
 pub sum-more : (l : List ℤ) (θ : ℕ → ℤ) (j : ℕ) → j < length l → sum (take (suc j) l) θ ≡ sum (take j l) θ +ℤ getD l j (pos 0) *ℤ θ j
@@ -28,10 +37,6 @@ sum-more (a ∷ l) θ (suc j) h =
     ∙ sym (+ℤ-assoc (a *ℤ θ 0) (sum (take j l) (λ i. θ (suc i))) (getD l j (pos 0) *ℤ θ (suc j)))
 
 -- ---- the same values
-
-tab-same : (f g : ℕ → ℤ) (n i : ℕ) → ((j : ℕ) → i ≤ j → j < i + n → f j ≡ g j) → tab n i f ≡ tab n i g
-tab-same f g zero i h = refl
-tab-same f g (suc n) i h = ap₂ _∷_ (h i (omega arith) (omega arith)) (tab-same f g n (i + 1) (λ j a b. h j (omega arith) (omega arith)))
 
 pub vec-same : (f g : ℕ → ℤ) → ((j : ℕ) → j < counters → f j ≡ g j) → vec f ≡ vec g
 vec-same f g h = tab-same f g counters 0 (λ j a b. h j (omega arith))
@@ -45,9 +50,7 @@ sum-same (a ∷ l) θ η h =
 -- v has the values f j
 module _ (v : Counters) (f : ℕ → ℤ) (e : v .at ≡ vec f) where
   pub at-is : (j : ℕ) → j < counters → valueAt v j ≡ f j
-  at-is j h =
-      let z : 0 + j ≡ j = omega arith in
-      ap (λ l. getD l j (pos 0)) e ∙ at-tab f counters 0 j (pos 0) h ∙ ap f z
+  at-is j h = ap (λ l. getD l j (pos 0)) e ∙ entry f counters j (pos 0) h
 
   pub sum-is : (l : List ℤ) → length l ≤ counters → sum l (valueAt v) ≡ sum l f
   sum-is l h = sum-same l (valueAt v) f (λ j k. at-is j (omega arith))

@@ -1,10 +1,10 @@
-// A value for each counter: n times another more, and the sum of coefficient times counter.
+// A value for each counter: the numbers of an item more, n times another more, and the sum of coefficient times counter.
 ghost use mathlib.Core.Path.{_≡_};
-ghost use Prim.Native.Nat.{ℕ, _+_, _*_, _<_, _^_};
+ghost use Prim.Native.Nat.{ℕ, _+_, _*_, _≤_, _<_, _^_};
 ghost use lib.IntN.{pos, _+ℤ_, _*ℤ_};
 ghost use Rattle.laws.specs.Sizes.{size};
 ghost use Rattle.kinds.specs.Kinds.{counters};
-ghost use Rattle.counters.specs.Vectors.{valueAt, vec};
+ghost use Rattle.counters.specs.Vectors.{valueAt, numberAt, vec};
 ghost use Rattle.counters.specs.Bounds.{sizes};
 ghost use Rattle.counters.specs.Sum.{sum};
 use kinds::PerCounter;
@@ -23,15 +23,17 @@ pub fn zero() -> Counters
     }
 }
 
-// The numbers of an item, as values.
-pub fn widened(u: PerCounter) -> Counters
-    ensures { λ r. ⌜ r .at ≡ u .at ⌝ }
+// The numbers of an item more, counter by counter; what their type leaves them is promised too.
+pub fn plus(v: Counters, u: PerCounter) -> Counters
+    requires { ⌜ ((j : ℕ) → j < counters → size (valueAt v j) + 2 ^ 15 < 2 ^ 63) ⌝ }
+    ensures { λ r. ⌜ (r .at ≡ vec (λ j. valueAt v j +ℤ numberAt u j)) × ((j : ℕ) → j < counters → size (numberAt u j) ≤ 2 ^ 15) ⌝ }
 {
-    let x = u.at;
+    let x = v.at;
+    let y = u.at;
     let mut each = [0i64; PerCounter::COUNT];
     let mut j: usize = 0;
     while j < PerCounter::COUNT {
-        each[j] = x[j] as i64;
+        each[j] = x[j] + y[j] as i64;
         j = j + 1;
     }
     Counters { at: each }

@@ -88,7 +88,7 @@ module _ {c : Case} (s : Sound c) where
 
   -- 24 doesn't apply
   abbrev isFinished : Bool
-  isFinished = ltb 0 (c .count .sentences) && isClosed (c .derived .loops) (c .count .places)
+  isFinished = ltb 0 (c .count .sentences) && isClosed (c .loops) (c .count .places)
 
   finished-is : isFinished ≡ finished x
   finished-is = rw (ap (λ (d : Derived). d .loops) (derived s), counted c s kind.Sentence, counted c s kind.Place)
@@ -113,7 +113,7 @@ module _ {c : Case} (s : Sound c) where
     pub some-sentence : b ≡ true → 0 < c .count .sentences
     some-sentence t =
         let n = c .count .sentences in
-        tells-and (ltb 0 n) (isClosed (c .derived .loops) (c .count .places)) (tells-lt 0 n) (λ d. d, λ d. d) .0 (sym e ∙ t) .0
+        tells-and (ltb 0 n) (isClosed (c .loops) (c .count .places)) (tells-lt 0 n) (λ d. d, λ d. d) .0 (sym e ∙ t) .0
 
   -- where r is the root, and b its mark at place 0
   pub by-root : {r : ℕ} {b : Bool} → r ≡ c .count .sentences - 1 → b ≡ bit (first .marks) r → cond b Accepted (RootUnmarked r) ≡ rootAnswer x

@@ -30,7 +30,7 @@ pub fn judge(c: Case) -> Judgement
     ensures { λ r. ⌜ r ≡ verdict (itemsOf c) (startOf (itemsOf c)) ⌝ }
 {
     let count = c.count;
-    let loops = c.derived.loops;
+    let loops = c.loops;
     if !finished(count, loops) {
         return Judgement::Unfinished(count.total());
     }

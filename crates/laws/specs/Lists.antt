@@ -1,6 +1,7 @@
--- An element of a list by its number: past the end, where several in a row are the same, and in the first part. Assumes nothing.
+-- An element of a list by its number: past the end, where several in a row are the same, and in the first part, which further copies of what stands
+-- past the end don't change. Assumes nothing.
 use mathlib.Core.Path.{_≡_, refl, _∙_, sym, ap}
-use mathlib.Core.List.{List, [], _∷_}
+use mathlib.Core.List.{List, [], _∷_, _++_}
 use Prim.Native.Nat.{ℕ, zero, suc, _+_, _-_, _≤_, _<_}
 use native.Mathlib.Omega.{arith}
 use lib.ListN.{length, getD, take, drop, replicate, getD-replicate, List·getD-eq-default}
@@ -42,3 +43,20 @@ in-first d l (suc k) zero h = past-end d l (suc k) (h (omega arith))
 in-first d [] (suc k) (suc m) h = refl
 in-first d (x ∷ l) (suc zero) (suc m) h = refl
 in-first d (x ∷ l) (suc (suc k)) (suc m) h = in-first d l (suc k) m (λ a. omega (arith, h (omega arith)))
+
+-- copies of what stands past the end don't change what is read
+pub at-left : {A : Type 0} (d : A) (n i : ℕ) → getD (replicate n d) i d ≡ d
+at-left d zero i = refl
+at-left d (suc n) zero = refl
+at-left d (suc n) (suc i) = at-left d n i
+
+pub at-front : {A : Type 0} (d : A) (l : List A) (n i : ℕ) → getD (l ++ replicate n d) i d ≡ getD l i d
+at-front d [] n i = at-left d n i
+at-front d (x ∷ l) n zero = refl
+at-front d (x ∷ l) n (suc i) = at-front d l n i
+
+-- an index that is there reads the same whatever stands past the end
+pub within : {A : Type 0} (l : List A) (i : ℕ) (d e : A) → i < length l → getD l i d ≡ getD l i e
+within [] i d e h = absurd (omega arith)
+within (x ∷ l) zero d e h = refl
+within (x ∷ l) (suc i) d e h = within l i d e (omega arith)

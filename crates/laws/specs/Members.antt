@@ -60,6 +60,12 @@ from-has s (suc n) p m = ⊎-elim (λ e. omega arith) (λ k. omega (arith, from-
 pub has-below : (n p : ℕ) → Has (from 0 n) p ↔ (p < n)
 has-below n p = (λ m. omega (arith, from-has 0 n p m), λ h. has-from 0 n p (omega arith) (omega arith))
 
+-- what is so of the numbers below n, and of n
+pub below-next : (P : ℕ → Type 0) (n : ℕ) → ((i : ℕ) → i < n → P i) → P n → (i : ℕ) → i < n + 1 → P i
+below-next P n f p i h =
+    let l : i ≤ n = omega arith in
+    ⊎-elim (λ e. subst P (sym e) p) (f i) (eq-or-lt-of-le l)
+
 module _ {A B : Type 0} (f : A → List B) where
   pub has-gather : {l : List A} {a : A} {b : B} → Has l a → Has (f a) b → Has (gather f l) b
   unfolding gather

@@ -49,6 +49,10 @@ module _ (w : Width) where
   size-fits (pos n) h = record { sfits = omega arith }
   size-fits (negsuc n) h = record { sfits = omega arith }
 
+  pub fits-size : (z : ℤ) → SFits w z → size z ≤ 2 ^ hbits w
+  fits-size (pos n) f = omega (arith, f .sfits)
+  fits-size (negsuc n) f = omega (arith, f .sfits)
+
   pub size-read : (z : ℤ) → size z < 2 ^ hbits w → toZ w (ofZ w z) ≡ z
   size-read z h = toZ-ofZ (size-fits z h)
 

@@ -1,11 +1,12 @@
 -- A list by its index, and the loop that fills an array so: one law for any element and any length. Assumes nothing.
-use mathlib.Core.Path.{_≡_, refl, _∙_, sym, ap}
+use mathlib.Core.Path.{_≡_, refl, _∙_, sym, ap, ap₂, subst}
 use mathlib.Core.List.{List, [], _∷_, _++_, append-nil}
 use Prim.Native.Nat.{ℕ, zero, suc, _+_, _-_, _≤_, _<_}
 use native.Mathlib.Numerals.{add-one}
 use native.Mathlib.Omega.{arith}
-use lib.ListN.{length, take, set, getD, length-set}
-use lib.Seq.{take-all, take-suc-set, append-snoc, ext-getD}
+use native.Mathlib.Decide.{decLt}
+use lib.ListN.{length, take, set, getD, replicate, length-set}
+use lib.Seq.{take-all, take-suc-set, append-snoc, ext-getD, getD-set-same, getD-set-other}
 
 -- g at n numbers from i on
 abbrev pub tab : {A : Type 0} → ℕ → ℕ → (ℕ → A) → List A
@@ -31,13 +32,46 @@ module _ {A : Type 0} (g : ℕ → A) where
       let e : i + 1 + k ≡ i + suc k = omega arith in
       at-tab n (i + 1) k d (omega arith) ∙ ap g e
 
+  -- from 0 on
+  pub entry : (n k : ℕ) (d : A) → k < n → getD (tab n 0 g) k d ≡ g k
+  entry n k d h =
+      let e : 0 + k ≡ k = omega arith in
+      at-tab n 0 k d h ∙ ap g e
+
+-- the same where g is the same
+pub tab-same : {A : Type 0} (f g : ℕ → A) (n i : ℕ) → ((j : ℕ) → i ≤ j → j < i + n → f j ≡ g j) → tab n i f ≡ tab n i g
+tab-same f g zero i h = refl
+tab-same f g (suc n) i h = ap₂ _∷_ (h i (omega arith) (omega arith)) (tab-same f g n (i + 1) (λ j a b. h j (omega arith) (omega arith)))
+
+pub tab-one : {A : Type 0} (a : A) (n i : ℕ) → tab n i (λ j. a) ≡ replicate n a
+tab-one a zero i = refl
+tab-one a (suc n) i = ap (λ l. a ∷ l) (tab-one a n (i + 1))
+
+-- one element changed
+pub tab-set : {A : Type 0} (f g : ℕ → A) (n q : ℕ) → q < n → ((j : ℕ) → j < n → (j ≡ q → ⊥) → f j ≡ g j) → set (tab n 0 f) q (g q) ≡ tab n 0 g
+tab-set f g n q l h =
+    let d = g q in
+    let e = length-set (tab n 0 f) q d ∙ length-tab f n 0 in
+    ext-getD d (set (tab n 0 f) q d) (tab n 0 g) (e ∙ sym (length-tab g n 0)) (λ j k.
+    let i : j < n = omega (arith, e) in
+    let other : (j ≡ q → ⊥) → getD (set (tab n 0 f) q d) j d ≡ getD (tab n 0 g) j d =
+    λ s. getD-set-other (tab n 0 f) q j d d s ∙ entry f n j d i ∙ h j i s ∙ sym (entry g n j d i) in
+    elim (decLt j q) [
+      | yes s ↦ other (λ t. absurd (omega arith))
+      | no s ↦ elim (decLt q j) [
+        | yes t ↦ other (λ u. absurd (omega arith))
+        | no t ↦
+            let u : q ≡ j = omega arith in
+            subst (λ m. getD (set (tab n 0 f) q d) m d ≡ getD (tab n 0 g) m d) u
+            (getD-set-same (tab n 0 f) q d d (omega (arith, length-tab f n 0)) ∙ sym (entry g n q d l))
+      ]
+    ])
+
 -- a list by its elements
 pub tab-again : {A : Type 0} (d : A) (r : List A) (n : ℕ) → length r ≡ n → tab n 0 (λ j. getD r j d) ≡ r
 tab-again {A} d r n l =
     let g : ℕ → A = λ j. getD r j d in
-    ext-getD d (tab n 0 g) r (length-tab g n 0 ∙ sym l) (λ j h.
-    let e : 0 + j ≡ j = omega arith in
-    at-tab g n 0 j d (rw (length-tab g n 0) at h) ∙ ap g e)
+    ext-getD d (tab n 0 g) r (length-tab g n 0 ∙ sym l) (λ j h. entry g n j d (rw (length-tab g n 0) at h))
 
 module _ {A : Type 0} (g : ℕ → A) (n : ℕ) where
   pub fill-none : (xs : List A) → length xs ≡ n → Filled g n xs 0

@@ -1,4 +1,5 @@
 pub mod Run
+pub mod Drift
 pub mod Truth
 pub mod Judged
 pub mod Paper

@@ -39,7 +39,7 @@ use Rattle.meaning_laws.specs.Around.{rowWith}
 
 -- two cases have the same counts, and the same loops beside the items; two results so, and one answer
 abbrev Same : Case → Case → Type 0
-Same c d = (c .count ≡ d .count) × (c .derived .loops ≡ d .derived .loops)
+Same c d = (c .count ≡ d .count) × (c .loops ≡ d .loops)
 
 abbrev SameResult : Result → Result → Type 0
 SameResult t u = (t .answer ≡ u .answer) × Same (t .case) (u .case)
@@ -63,11 +63,11 @@ AllAlike rs qs = (c d : Case) (m : ℕ) → Same c d → collectedFrom c m rs .a
 alike-as : (c d : Case) (k : Kind) (r q : Record) → Same c d → AlikeAs k r q → SameResult (takenAs c k r) (takenAs d k q)
 unfolding takenAs
 alike-as c d k r q s a =
-    let t = isTaken (recordAnswer (c .count) (c .derived .loops) k r) in
+    let t = isTaken (recordAnswer (c .count) (c .loops) k r) in
     (e, subst (λ u. Same (cond t (with c k (r .fields)) c) (cond u (with d k (q .fields)) d)) (ap isTaken e) (go t))
   where
-    e : recordAnswer (c .count) (c .derived .loops) k r ≡ recordAnswer (d .count) (d .derived .loops) k q
-    e = ap₂ (λ n l. recordAnswer n l k r) (s .0) (s .1) ∙ a .answer (d .count) (d .derived .loops)
+    e : recordAnswer (c .count) (c .loops) k r ≡ recordAnswer (d .count) (d .loops) k q
+    e = ap₂ (λ n l. recordAnswer n l k r) (s .0) (s .1) ∙ a .answer (d .count) (d .loops)
 
     go : (t : Bool) → Same (cond t (with c k (r .fields)) c) (cond t (with d k (q .fields)) d)
     go true = let u = same-with c d s k (r .fields) in let v = a .item d in (u .0 ∙ v .0, u .1 ∙ v .1)
@@ -136,7 +136,7 @@ module _ (g : ℕ → Field) where
     alike-rounds =
         record {
           answer = same-answer;
-          item = λ c. (refl, same-loops (c .derived .loops) (c .count .places) (g 4 .content) (g 6 .content));
+          item = λ c. (refl, same-loops (c .loops) (c .count .places) (g 4 .content) (g 6 .content));
         }
 
 -- two records of places that differ in their rounds alone are taken alike

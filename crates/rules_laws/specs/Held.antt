@@ -234,7 +234,7 @@ pub record IsTaken (c : Case) (bs : List ℕ) : Type 0 where
   pub kind : Kind
   pub letter : getD bs 0 0 ≡ letterOf kind
   pub fit : Fit kind (recordOf bs .fields)
-  pub next : Next (c .count) (c .derived .loops) kind (recordOf bs)
+  pub next : Next (c .count) (c .loops) kind (recordOf bs)
   pub case : takenOf c bs .case ≡ with c kind (recordOf bs .fields)
 
 fit-is : (k : Kind) (bs : List ℕ) → isTaken (fieldsAnswer (shapeOf k (recordOf bs)) (recordOf bs)) ≡ true → Fit k (recordOf bs .fields)
@@ -290,12 +290,12 @@ module _ (c : Case) (bs : List ℕ) where
   taken-by (Refused a) r e t = absurd (true≢false (sym t ∙ r))
   taken-by (Of k) r e t =
       let s = shapeOf k (recordOf bs) in
-      let b = both-take (fieldsAnswer s (recordOf bs)) (orderAnswer (c .count) (c .derived .loops) s (recordOf bs)) t in
+      let b = both-take (fieldsAnswer s (recordOf bs)) (orderAnswer (c .count) (c .loops) s (recordOf bs)) t in
       record {
         kind = k;
         letter = r;
         fit = fit-is k bs (b .0);
-        next = next-is (c .count) (c .derived .loops) k bs (b .1);
+        next = next-is (c .count) (c .loops) k bs (b .1);
         case = ap (λ h. takenBy c h bs .case) e ∙ ap (λ q. cond q (with c k (recordOf bs .fields)) c) t;
       }
 

@@ -30,13 +30,13 @@ use Rattle.standing.specs.declared.Loops.{Loops}
 
 -- no loop yet
 abbrev pub noLoops : Loops
-noLoops = record { end = record { 0 = 0 }; endless = false }
+noLoops = record { first = record { 0 = 0 }; end = record { 0 = 0 }; endless = false }
 
--- the loops after place n, with this mark: the last one ends before place n + length
+-- the loops after place n, with this mark: the last one begins there and ends before place n + length
 abbrev pub loopsAfter : Loops → ℕ → LoopMark → Loops
 loopsAfter l n mark.None = l
-loopsAfter l n (mark.Counted len r b) = record { end = record { 0 = n + len }; endless = false }
-loopsAfter l n (mark.Endless len b) = record { end = record { 0 = n + len }; endless = true }
+loopsAfter l n (mark.Counted len r b) = record { first = record { 0 = n }; end = record { 0 = n + len }; endless = false }
+loopsAfter l n (mark.Endless len b) = record { first = record { 0 = n }; end = record { 0 = n + len }; endless = true }
 
 -- the loops of a row of places, the first of which is place n, after those of l
 unfoldable pub loopsFrom : Loops → ℕ → List Place → Loops
@@ -50,6 +50,10 @@ isClosed l n = l .endless && leb (l .end .0) n
 -- a loop is open where n places are held
 abbrev pub isOpen : Loops → ℕ → Bool
 isOpen l n = ltb n (l .end .0)
+
+-- place n is the last place of the last loop
+abbrev pub isLoopEnd : Loops → ℕ → Bool
+isLoopEnd l n = leb (l .first .0) n && eqb (l .end .0) (n + 1)
 
 -- a loop of this length that begins at place n would pass the last place
 abbrev pub isLong : ℕ → ℕ → Bool

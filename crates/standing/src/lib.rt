@@ -9,7 +9,7 @@ ghost use Rattle.table.specs.Table.{shapeOf};
 ghost use Rattle.items.specs.Lists.{roomOf};
 ghost use Rattle.checks.specs.declared.Fault.the-variants as fault;
 ghost use Rattle.checks.specs.Faults.{lowestFault};
-ghost use Rattle.standing.specs.Standing.{loopsAfter, isClosed, isBarred, wayAnswer, placeAnswer, layoutAnswer, orderAnswer, recordAnswer};
+ghost use Rattle.standing.specs.Standing.{loopsAfter, isClosed, isLoopEnd, isBarred, wayAnswer, placeAnswer, layoutAnswer, orderAnswer, recordAnswer};
 use answers::Answer;
 use checks::Fault;
 use items::LoopMark;
@@ -19,8 +19,9 @@ use kinds::Counts;
 use kinds::Kind;
 use record::Record;
 
-// The last loop so far: the place after it (0 where there is no loop), and whether it is endless. It follows from the places.
+// The last loop so far: its first place and the place after it (both 0 where there is no loop), and whether it is endless. It follows from the places.
 pub struct Loops {
+    pub first: PlaceNo,
     pub end: PlaceNo,
     pub endless: bool,
 }
@@ -51,10 +52,12 @@ impl Loops {
                 rounds: _,
                 back: _,
             } => Loops {
+                first: PlaceNo(n),
                 end: PlaceNo(n + length as usize),
                 endless: false,
             },
             LoopMark::Endless { length, back: _ } => Loops {
+                first: PlaceNo(n),
                 end: PlaceNo(n + length as usize),
                 endless: true,
             },
@@ -67,6 +70,16 @@ impl Loops {
     {
         let end = self.end;
         if self.endless { end.0 <= n } else { false }
+    }
+
+    // Whether place n is the last place of the last loop.
+    pub fn ends_at(self, n: usize) -> bool
+        requires { ⌜ n < roomOf kind.Place ⌝ }
+        ensures { λ r. ⌜ r ≡ isLoopEnd self n ⌝ }
+    {
+        let first = self.first;
+        let end = self.end;
+        if first.0 <= n { end.0 == n + 1 } else { false }
     }
 
     // Whether a record of place n has a loop mark inside an open loop, or one whose loop would pass the last place.

@@ -1,31 +1,13 @@
 -- The counters of a run, place by place: what they are in the first round of a place, and what each round adds.
-use mathlib.Core.Bool.{true, false, cond}
-use Prim.Native.Nat.{ℕ, zero, suc, _+_, _-_}
-use lib.IntN.{ℤ, pos, _+ℤ_, _-ℤ_, _*ℤ_}
+use mathlib.Core.Bool.{cond}
+use Prim.Native.Nat.{ℕ, zero, suc, _-_}
+use lib.IntN.{ℤ, pos, _+ℤ_, _*ℤ_}
 use Rattle.counters.specs.Sum.{Valuation}
 use Rattle.items.specs.declared.LoopMark.{LoopMark}
 use Rattle.items.specs.declared.LoopMark.the-variants as mark
 use Rattle.items.specs.Lists.{Items}
-use Rattle.rules.specs.Rules.{markAt}
-use Rattle.meaning.specs.Run.{stretch, moveBy, update}
+use Rattle.meaning.specs.Drift.{inBy, drift}
 use Rattle.verdict.specs.Rounds.{firstOf, loopOf, isLast}
-
--- what the way into place p adds to counter j
-abbrev pub inBy : Items → ℕ → ℕ → ℤ
-inBy x j p = update (moveBy x (record { place = p; back = false })) j
-
--- what the back move into place p adds to counter j
-abbrev pub backBy : Items → ℕ → ℕ → ℤ
-backBy x j p = update (moveBy x (record { place = p; back = true })) j
-
--- what the ways into the places 1 to p add
-unfoldable pub ways : Items → ℕ → ℕ → ℤ
-ways x j zero = pos 0
-ways x j (suc p) = ways x j p +ℤ inBy x j (suc p)
-
--- what a round of the loop that place q begins adds: the ways into its other places, and the back move
-unfoldable pub drift : Items → ℕ → ℕ → ℤ
-drift x j q = ways x j (q + stretch (markAt (x .places) q) - 1) -ℤ ways x j q +ℤ backBy x j q
 
 -- how often a loop is gone through again before it is left
 abbrev pub repeats : LoopMark → ℕ

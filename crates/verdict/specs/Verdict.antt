@@ -17,6 +17,7 @@ use Rattle.answers.specs.declared.Judgement.{Judgement}
 use Rattle.answers.specs.declared.Judgement.the-variants.{Accepted, Unfinished, WrongStart, Unconnected, GuardFails, WrongMark, RootUnmarked}
 use Rattle.rules.specs.Files.{itemCount}
 use Rattle.standing.specs.Standing.{noLoops, loopsFrom, isClosed}
+use Rattle.meaning.specs.Drift.{drift}
 use Rattle.meaning.specs.Run.{Way, guardAt, moveNo, moveBy}
 use Rattle.meaning.specs.Truth.{bit}
 use Rattle.meaning.specs.Judged.{stateAt, waysOf, placeBefore, Test, testsOf, Mark, marksOf, marked, root}
@@ -26,7 +27,7 @@ use Rattle.verdict.specs.declared.Rounds.{Rounds}
 use Rattle.verdict.specs.declared.Rounds.the-variants as rounds
 use Rattle.verdict.specs.Labels.{labelOf}
 use Rattle.verdict.specs.Rounds.{firstOf, loopOf, isLast, roundsOf, roundsBy, flag, agree, through}
-use Rattle.verdict.specs.Forward.{base, drift}
+use Rattle.verdict.specs.Forward.{base}
 use Rattle.verdict.specs.Best.{Front, isReached, front}
 
 -- ---- guards over the rounds of a place

@@ -1,13 +1,21 @@
 -- The empty case. Assumes nothing.
+use mathlib.Core.Path.{_≡_, ap}
+use mathlib.Core.List.{List}
+use lib.IntN.{ℤ, pos}
+use Rattle.counters.specs.Vectors.{vecOf}
 use Rattle.items.specs.Items.{perCounter, moveOf}
 use Rattle.standing.specs.Standing.{loopsFrom}
 use Rattle.collector.specs.Cases.{emptyCase}
+use Rattle.collector.proofs.Moves.{empty-drifts}
 use borrow.Author.Needs.{needs}
 use Rattle.collector.proofs.Case.empty.Statement.{statement}
 use Rattle.collector.proofs.Case.empty.Tie as tie
 
 none-requires : tie.Need-none-requires
 none-requires c κs = search needs
+
+zero-requires : tie.Need-zero-requires
+zero-requires c κs = search needs
 
 no-guard-requires : tie.Need-no-guard-requires
 no-guard-requires c κs = search needs
@@ -20,7 +28,10 @@ no-place-requires c κs = search needs
 
 returns : tie.Need-returns
 unfolding emptyCase loopsFrom moveOf perCounter
-returns c = simp (c .before .before .before .none .ensures, c .before .before .no-guard .ensures, c .before .move-of .ensures, c .no-place .ensures)
+returns c =
+    let z : c .before .before .before .zero .result ≡ vecOf (λ j. pos 0) = ap (λ (l : List ℤ). record { at = l }) (c .before .before .before .zero .ensures) in
+    rw empty-drifts
+    (simp (c .before .before .before .before .none .ensures, z, c .before .before .no-guard .ensures, c .before .move-of .ensures, c .no-place .ensures))
 
 pub empty-spec : {M : Type 1} → statement M
-empty-spec = tie.close (tie.spec none-requires no-guard-requires move-of-requires no-place-requires returns)
+empty-spec = tie.close (tie.spec none-requires zero-requires no-guard-requires move-of-requires no-place-requires returns)

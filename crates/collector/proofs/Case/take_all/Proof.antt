@@ -1,24 +1,27 @@
 -- The records of a file are taken in order. The loop's invariant: what the records that are left give is what the file gives.
 -- The measure is the bytes that are left. Assumes nothing.
 use mathlib.Core.Path.{_≡_, _∙_, sym, ap, subst}
-use mathlib.Core.Bool.{Bool, true, false}
+use mathlib.Core.Bool.{Bool, true, false, and-eq-true-iff}
 use mathlib.Core.List.{_∷_}
 use mathlib.Core.Logic.{⊎-elim}
 use Prim.Native.Nat.{_+_, _-_, _≤_, _<_}
 use native.Mathlib.Omega.{arith}
 use lib.ListN.{length, take, drop, length-drop}
 use borrow.Author.Needs.{needs}
+use borrow.Author.Tests.{leb-true}
 use Rattle.record.specs.Layout.{recordLength, recordOf, cutFrom, cut}
 use Rattle.kinds.specs.declared.Kind.{Kind}
 use Rattle.kinds.specs.declared.Kind.the-variants as kind
 use Rattle.kinds.specs.Kinds.{countOf}
 use Rattle.checks.specs.declared.Head.the-variants.{Of}
 use Rattle.checks.specs.Input.{headOf}
+use Rattle.items.specs.declared.Place.{Place}
 use Rattle.items.specs.Lists.{roomOf}
+use Rattle.standing.specs.Standing.{loopsAfter, isLoopEnd}
 use Rattle.answers.specs.Answers.{isTaken}
 use Rattle.standing.proofs.Room.{has-room}
 use Rattle.collector.specs.Taking.{refusalOf, collectedFrom, collectedOf}
-use Rattle.collector.proofs.Laws.{cut-end, cut-next, part, rest, fair, stored, step, collected-next, collected-refused}
+use Rattle.collector.proofs.Laws.{cut-end, cut-next, part, rest, fair, stored, stored-place, step, collected-next, collected-refused}
 use Rattle.collector.proofs.Case.take_all.Statement.{statement}
 use Rattle.collector.proofs.Case.take_all.Tie as tie
 
@@ -66,6 +69,16 @@ room c i q =
     let n = h .before .before .before .before .before .before .loop .self .count in
     subst (λ j. countOf n j < roomOf j) q (has-room n _ _ _ (ap isTaken (sym (a .answer-of .ensures)) ∙ sym (c .before .is-taken .ensures) ∙ c .if1 .taken))
 
+-- a loop that closes begins at a place that is held, and there is room for it
+within : (c : tie.Then2 Inv-loop μ-loop) →
+    let l = c .before .before in
+    let b = l .before .before .before .before .before .before .before .before .before .before .before .before .before .before .before .before .before .before .before .before .loop .self in
+    (l .after .result .first .0 ≤ b .count .places) × (b .count .places < roomOf kind.Place)
+within c =
+    let e = c .before in
+    (leb-true _ _ (and-eq-true-iff _ _ .0 (sym (e .ends-at .ensures) ∙ c .if2 .taken) .0),
+    omega (arith, room (e .before .before .before .before .before .before .before) kind.Place (e .before .before .before .before .before .enum-told6 .given .1)))
+
 -- what is stored is the item that the record says
 stored-so : (c : tie.At-match2-came Inv-loop μ-loop) → let d = c .before .before .before .before .before .before in let h = d .before .before .before in c .match2 .self ≡ stored (h .before .before .before .before .before .before .loop .self) (h .head .given .0 .0) (d .read .result)
 stored-so c =
@@ -82,7 +95,19 @@ stored-so c =
     (λ w. w .4 ∙ rw (w .2 .ensures) (of kind.Move (w .1 .given .1)))
     (⊎-elim
     (λ w. w .4 ∙ rw (w .2 .ensures) (of kind.Sentence (w .1 .given .1)))
-    (λ w. w .6 ∙ rw (w .5 .ensures, w .2 .ensures) (of kind.Place (w .1 .given .1))))))
+    (⊎-elim
+    (λ w.
+    w .10
+    ∙ rw (w .9 .ensures, w .5 .ensures, w .2 .ensures)
+    (sym (stored-place b (d .read .result) true
+    (sym (w .6 .ensures ∙ ap (λ l. isLoopEnd l (b .count .places)) (w .5 .ensures ∙ ap (λ (p : Place). loopsAfter (b .loops) (b .count .places) (p .mark)) (w .2 .ensures))) ∙ w .7 .taken))
+    ∙ of kind.Place (w .1 .given .1)))
+    (λ w.
+    w .8
+    ∙ rw (w .5 .ensures, w .2 .ensures)
+    (sym (stored-place b (d .read .result) false
+    (sym (w .6 .ensures ∙ ap (λ l. isLoopEnd l (b .count .places)) (w .5 .ensures ∙ ap (λ (p : Place). loopsAfter (b .loops) (b .count .places) (p .mark)) (w .2 .ensures))) ∙ w .7 .left))
+    ∙ of kind.Place (w .1 .given .1)))))))
     (c .match2 .came)
 
 loop-holds : tie.Need-loop-holds Inv-loop μ-loop
@@ -221,6 +246,18 @@ add-self-5 c = omega (arith, room (c .before .before .before) kind.Place (c .bef
 after-requires : tie.Need-after-requires Inv-loop μ-loop
 after-requires c κs = omega (arith, room (c .before .before .before .before .before) kind.Place (c .before .before .before .enum-told6 .given .1))
 
+ends-at-requires : tie.Need-ends-at-requires Inv-loop μ-loop
+ends-at-requires c κs = omega (arith, room (c .before .before .before .before .before .before) kind.Place (c .before .before .before .before .enum-told6 .given .1))
+
+round-from-requires : tie.Need-round-from-requires Inv-loop μ-loop
+round-from-requires c κs = within (c .before)
+
+mul-sums : tie.Need-mul-sums Inv-loop μ-loop
+mul-sums c = record { fits = omega (arith, within (c .before .before)) }
+
+element-set-from-sums : tie.Need-element-set-from-sums Inv-loop μ-loop
+element-set-from-sums c = omega (arith, within (c .before .before))
+
 returns-2 : tie.Need-returns-2 Inv-loop μ-loop
 returns-2 c = sym (turned (c .before) false (c .if1 .left))
 
@@ -302,6 +339,10 @@ take-all-spec =
     element-set-from-place
     add-self-5
     after-requires
+    ends-at-requires
+    round-from-requires
+    mul-sums
+    element-set-from-sums
     returns-2
     add-taken
     loop-less

@@ -9,20 +9,20 @@ enum-told c = search needs
 enum-known-mark : tie.Need-enum-known-mark
 enum-known-mark c = search needs
 
-cast-t7 : tie.Need-cast-t7
-cast-t7 c = search needs
+cast-t8 : tie.Need-cast-t8
+cast-t8 c = search needs
 
-add-t8 : tie.Need-add-t8
-add-t8 c = search needs
+add-t9 : tie.Need-add-t9
+add-t9 c = search needs
 
 enum-known-mark-2 : tie.Need-enum-known-mark-2
 enum-known-mark-2 c = search needs
 
-cast-t10 : tie.Need-cast-t10
-cast-t10 c = search needs
+cast-t12 : tie.Need-cast-t12
+cast-t12 c = search needs
 
-add-t11 : tie.Need-add-t11
-add-t11 c = search needs
+add-t13 : tie.Need-add-t13
+add-t13 c = search needs
 
 returns : tie.Need-returns
 returns c = search needs
@@ -39,11 +39,11 @@ after-spec =
     (tie.spec
     enum-told
     enum-known-mark
-    cast-t7
-    add-t8
+    cast-t8
+    add-t9
     enum-known-mark-2
-    cast-t10
-    add-t11
+    cast-t12
+    add-t13
     returns
     returns-2
     returns-3)
