@@ -13,7 +13,7 @@ use Rattle.collector.specs.declared.Case.{Case}
 use Rattle.collector.specs.Cases.{emptyCase, itemsOf}
 use Rattle.collector.specs.Taking.{takenOf, collectedFrom, collectedOf}
 use Rattle.collector.specs.Sound.{Sound}
-use Rattle.rules_laws.specs.Held.{sound-is-kept, taken-with}
+use Rattle.rules_laws.specs.Held.{taken-with}
 use Rattle.rules_laws.specs.Kept.{sound-empty, sound-kept}
 use Rattle.rules_laws.specs.Spelled.{size-more}
 use Rattle.meaning.specs.Listed.{room}
@@ -62,7 +62,7 @@ collected-first zero rs c m s h = absurd (omega (arith, within c s))
 collected-first (suc k) [] c m s h = refl
 collected-first (suc k) (b ∷ rs) c m s h =
     go (isTaken (takenOf c b .answer)) _
-    (λ e. collected-first k rs (takenOf c b .case) (m + 1) (sound-kept c b s) (omega (arith, size-more c b rs (taken-with c b e) (sound-is-kept s))))
+    (λ e. collected-first k rs (takenOf c b .case) (m + 1) (sound-kept c b s) (omega (arith, size-more c b rs (taken-with c b e) s)))
   where
     go : {A : Type 0} (t : Bool) (z : A) {x y : A} → (t ≡ true → x ≡ y) → cond t x z ≡ cond t y z
     go true z f = f refl

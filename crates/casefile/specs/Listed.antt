@@ -32,7 +32,7 @@ use Rattle.collector.specs.Sound.{Sound}
 use Rattle.rules_laws.specs.Tells.{tells-missing, tells-extra, tells-outside, tells-there}
 use Rattle.rules_laws.specs.Stages.{in-record}
 use Rattle.rules_laws.specs.Bytes.{bad-in}
-use Rattle.rules_laws.specs.Held.{sound-is-kept, counted, counts-are, total-room, taken-with}
+use Rattle.rules_laws.specs.Held.{counted, counts-are, total-room, taken-with}
 use Rattle.rules_laws.specs.Kept.{sound-empty, sound-kept}
 use Rattle.rules_laws.specs.Spelled.{size-more}
 use Rattle.rules_laws.specs.Theorems.{answers}
@@ -182,7 +182,7 @@ from-here [] c m s e = judged (verdict (itemsOf c) (startOf (itemsOf c))) (verdi
 from-here (b ∷ rs) c m s e =
     let t = takenOf c b in
     cond-by (λ (r : Collected). Listed (answerAfter r)) (isTaken (t .answer)) {x = collectedFrom (t .case) (m + 1) rs} {y = record { case = t .case; answer = t .answer; taken = m }}
-    (λ h. from-here rs (t .case) (m + 1) (sound-kept c b s) (omega (arith, size-more c b rs (taken-with c b h) (sound-is-kept s))))
+    (λ h. from-here rs (t .case) (m + 1) (sound-kept c b s) (omega (arith, size-more c b rs (taken-with c b h) s)))
     (λ h. rw h
     (⊎-elim (λ k. absurd (true≢false (sym (k .0) ∙ h))) (λ k. refused m (t .answer) (omega (arith, within c s)) (third-fits (itemsOf c) b (t .answer) (k .applies)))
     (answers c b s)))

@@ -69,7 +69,7 @@ pub kind-at : (k : Kind) → kindAt (rankOf k) ≡ k
 unfolding allOf
 kind-at k = same-is (kindAt (rankOf k)) k (every (λ j. same (kindAt (rankOf j)) j) refl k)
 
-rank-below : (k : Kind) → rankOf k < length allKinds
+pub rank-below : (k : Kind) → rankOf k < length allKinds
 unfolding allOf
 rank-below k = ltb-true (rankOf k) (length allKinds) (every (λ j. ltb (rankOf j) (length allKinds)) refl k)
 

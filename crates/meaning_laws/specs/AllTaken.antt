@@ -24,7 +24,7 @@ use Rattle.collector.specs.Cases.{emptyCase, itemsOf}
 use Rattle.collector.specs.Taking.{takenOf, collectedFrom, collectedOf}
 use Rattle.collector.specs.Sound.{Sound}
 use Rattle.rules_laws.specs.Stages.{refuses}
-use Rattle.rules_laws.specs.Held.{sound-is-kept, taken-with}
+use Rattle.rules_laws.specs.Held.{taken-with}
 use Rattle.rules_laws.specs.Kept.{sound-empty, sound-kept}
 use Rattle.rules_laws.specs.Spelled.{lists-more, goes-on}
 use Rattle.rules_laws.specs.Theorems.{answers}
@@ -61,7 +61,7 @@ unfolding rowsOf
 spelled-more c ps b s e h =
     items-same (λ k.
     sym (append-nil (listOf k (itemsOf (takenOf c b .case))))
-    ∙ lists-more c b [] (taken-with c b h) (sound-is-kept s) k
+    ∙ lists-more c b [] (taken-with c b h) s k
     ∙ ap (λ x. listOf k x ++ map (itemOf k) (rowsOf k (b ∷ []))) e
     ∙ sym (spelled-append k ps (b ∷ [])))
 

@@ -34,13 +34,12 @@ use Rattle.checks.specs.Input.{wrongForm, badPlace, rangeAnswer, extraAnswer, m
 use Rattle.rules.specs.Rules.{IsA, fieldsOf, contentAt, ruleFor, IsMissing, IsExtra, IsOutside, IsNotThere, HasForm, BadAt, Lowest, Closed, Open, Applies, IsFirst}
 use Rattle.standing.specs.declared.Loops.{Loops}
 use Rattle.standing.specs.Standing.{noLoops, loopsFrom, isClosed, isOpen, isLong, wayAnswer, markAnswer, placeAnswer, layoutAnswer, thereAnswer, roomAnswer, orderAnswer, recordAnswer}
-use Rattle.collector.specs.declared.Derived.{Derived}
 use Rattle.collector.specs.declared.Case.{Case}
 use Rattle.collector.specs.Cases.{itemsOf}
 use Rattle.collector.specs.Taking.{takenAs, takenBy, takenOf}
 use Rattle.collector.specs.Sound.{Sound}
 use Rattle.rules_laws.specs.Tells.{tells-blank, tells-number, tells-missing, tells-extra, tells-outside, tells-there, tells-form, tells-way}
-use Rattle.rules_laws.specs.Held.{counts-are, derived}
+use Rattle.rules_laws.specs.Held.{counts-are, loops-are}
 use Rattle.rules_laws.specs.Loops.{closed-is, open-is}
 use Rattle.rules_laws.specs.Letters.{by-head}
 use Rattle.rules_laws.specs.Bytes.{bad-says, tells-bad-byte}
@@ -210,7 +209,7 @@ answers-first c bs s =
     (λ w e. inr (first x bs NoLineFeed (whole w) e))
     (λ w d e. inr (first x bs NoSuchKind (ended w d) e))
     (λ w d k is.
-    subst₂ (λ n l. Ends x bs 0 (recordAnswer n l k (recordOf bs))) (sym (counts-are c s)) (sym (ap (λ (d : Derived). d .loops) (derived s)))
+    subst₂ (λ n l. Ends x bs 0 (recordAnswer n l k (recordOf bs))) (sym (counts-are c s)) (sym (loops-are s))
     (kind-ends x bs (loopsFrom noLoops 0 (x .places)) (closed-is x (s .loops)) (open-is x (s .loops)) w k is
     (more x bs 13 14 refl (λ f h. h k is) (ended w d)))))
   where

@@ -18,10 +18,11 @@ use Rattle.kinds.specs.declared.Kind.{Kind}
 use Rattle.kinds.specs.declared.Kind.the-variants.{Place}
 use Rattle.kinds.specs.declared.Counts.{Counts}
 use Rattle.kinds.specs.Kinds.{allKinds, countOf, overKinds, countsTotal, same, letterOf, rankOf}
-use Rattle.kinds.specs.Laws.{same-self, by-kind, count-own, count-rest, counts-same}
+use Rattle.kinds.specs.Laws.{same-is, same-self, HeldAbove, tells-last, by-kind, count-own, count-rest, counts-same}
 use Rattle.kinds.specs.Last.{lastRank}
 use Rattle.kinds.specs.Contents.{natural, isNumber, isBlank}
 use Rattle.table.specs.Table.{shapeOf}
+use Rattle.items.specs.declared.LoopMark.the-variants as mark
 use Rattle.items.specs.Items.{Item, itemOf, placeOf}
 use Rattle.items.specs.Lists.{Items, listOf, itemsBy, countsOf, roomOf, noItem}
 use Rattle.items.specs.Laws.{list-by, items-same, counted-of}
@@ -34,15 +35,16 @@ use Rattle.checks.specs.declared.Head.{Head}
 use Rattle.checks.specs.declared.Head.the-variants.{Of, Refused}
 use Rattle.checks.specs.Faults.{faultAt, lowestFault}
 use Rattle.checks.specs.Input.{badPlace, wrongForm, rangeAnswer, extraAnswer, missingAnswer, formAnswer, fieldsAnswer, headOf}
-use Rattle.rules.specs.Rules.{IsA}
+use Rattle.rules.specs.Rules.{IsA, lengthOf}
 use Rattle.standing.specs.declared.Loops.{Loops}
-use Rattle.standing.specs.Standing.{noLoops, loopsAfter, loopsFrom, recordAnswer, orderAnswer, roomAnswer, thereAnswer, layoutAnswer, placeAnswer, markAnswer, wayAnswer, isClosed, isOpen, isLong}
+use Rattle.standing.specs.Standing.{noLoops, loopsAfter, loopsFrom, recordAnswer, orderAnswer, roomAnswer, thereAnswer, layoutAnswer, placeAnswer, markAnswer, wayAnswer, isClosed, isOpen, isLong, isLoopEnd}
 use Rattle.collector.specs.declared.Case.{Case}
-use Rattle.collector.specs.Cases.{changed, added, arraysOf, filled, caseBy, caseOf, itemsOf, derivedOf, derivedAfter, oneMore, with, emptyCase}
+use Rattle.collector.specs.Cases.{changed, added, arraysOf, filled, caseBy, caseOf, itemsOf, driftsOf, oneMore, loopsWith, roundFrom, driftsWith, with, emptyCase}
 use Rattle.collector.specs.Taking.{takenOf, takenBy, takenAs}
-use Rattle.collector.specs.Sound.{Sound, Fit, There}
+use Rattle.collector.specs.Sound.{Sound, Fit, There, LoopsApart}
 use Rattle.rules_laws.specs.Letters.{by-head}
 use Rattle.rules_laws.specs.Loops.{loops-snoc}
+use Rattle.rules_laws.specs.Drifts.{no-places, drifts-after}
 use Rattle.rules_laws.specs.Stages.{fault-none}
 use Rattle.rules_laws.specs.Tells.{tells-bad, tells-missing, tells-extra, tells-outside, tells-there}
 
@@ -86,6 +88,12 @@ set-filled l r d y h =
     ∙ set-at l d (replicate m d) y (length l) refl
     ∙ sym (ap (λ k. (l ++ (y ∷ [])) ++ replicate k d) g ∙ append-snoc l y (replicate m d))
 
+-- an item of kind k and the row r may follow the items x: a place leaves the loops apart, and a loop that it begins has a place; no other kind
+-- comes after a place
+pub record MayFollow (x : Items) (k : Kind) (r : List Field) : Type 0 where
+  pub place : k ≡ Place → LoopsApart (x .places ++ (placeOf r ∷ [])) × ((placeOf r .mark ≡ mark.None → ⊥) → 0 < lengthOf (placeOf r .mark))
+  pub other : same k Place ≡ false → x .places ≡ []
+
 module _ (x : Items) (k : Kind) (r : List Field) where
   abbrev put : (j : Kind) → List (Item j) → List (Item j)
   put j l = l ++ (itemOf j r ∷ [])
@@ -96,8 +104,8 @@ module _ (x : Items) (k : Kind) (r : List Field) where
   pub added-other : (j : Kind) → same k j ≡ false → listOf j (added x k r) ≡ listOf j x
   added-other = changed-other k put x
 
-  derived-added : derivedAfter (derivedOf x) (countsOf x) k r ≡ derivedOf (added x k r)
-  derived-added = λ i. record { loops = go (same k Place) i }
+  loops-added : loopsWith (loopsFrom noLoops 0 (x .places)) (countsOf x) k r ≡ loopsFrom noLoops 0 (added x k r .places)
+  loops-added = go (same k Place)
     where
       go : (t : Bool) → let l = loopsFrom noLoops 0 (x .places) in
           cond t (loopsAfter l (length (x .places)) (placeOf r .mark)) l ≡ loopsFrom noLoops 0 (cond t (put Place (x .places)) (x .places))
@@ -128,16 +136,39 @@ module _ (x : Items) (k : Kind) (r : List Field) where
       ∙ list-by (filled x) j
       ∙ sym (list-by (filled (added x k r)) j ∙ ap (λ l. l ++ replicate (roomOf j - length l) (noItem j)) (added-other j e))))
 
-  with-is : length (listOf k x) < roomOf k → with (caseOf x) k r ≡ caseOf (added x k r)
-  with-is h = λ i. caseBy (counts-added i) (derived-added i) (arrays-added h i)
+  drifts-added : MayFollow x k r → length (listOf k x) < roomOf k →
+      driftsWith (driftsOf x) (loopsFrom noLoops 0 (added x k r .places)) (itemsBy (filled (added x k r))) (countsOf x) k ≡ driftsOf (added x k r)
+  drifts-added m h = go (same k Place) refl
+    where
+      go : (t : Bool) → same k Place ≡ t →
+          driftsWith (driftsOf x) (loopsFrom noLoops 0 (added x k r .places)) (itemsBy (filled (added x k r))) (countsOf x) k ≡ driftsOf (added x k r)
+      go true e =
+          let i = same-is k Place e in
+          let a = m .place i in
+          subst
+          (λ j. driftsWith (driftsOf x) (loopsFrom noLoops 0 (added x j r .places)) (itemsBy (filled (added x j r))) (countsOf x) j ≡ driftsOf (added x j r)) (sym i)
+          (drifts-after x (placeOf r) (a .0) (a .1) (subst (λ j. length (listOf j x) < roomOf j) i h))
+      go false e =
+          let l = loopsFrom noLoops 0 (added x k r .places) in
+          let q = l .first .0 in
+          let n = length (x .places) in
+          ap (λ t. cond (t && isLoopEnd l n) (set (driftsOf x) q (roundFrom (itemsBy (filled (added x k r))) q n)) (driftsOf x)) e
+          ∙ no-places x (m .other e)
+          ∙ sym (no-places (added x k r) (added-other Place e ∙ m .other e))
+
+  with-is : MayFollow x k r → length (listOf k x) < roomOf k → with (caseOf x) k r ≡ caseOf (added x k r)
+  with-is m h =
+      (λ i. caseBy (counts-added i) (loops-added i) (driftsWith (driftsOf x) (loops-added i) (arrays-added h i) (countsOf x) k) (arrays-added h i))
+      ∙ ap (λ d. caseBy (countsOf (added x k r)) (loopsFrom noLoops 0 (added x k r .places)) d (itemsBy (filled (added x k r)))) (drifts-added m h)
+
+  -- whatever is kept beside the items
+  items-added : length (listOf k x) < roomOf k → itemsOf (with (caseOf x) k r) ≡ added x k r
+  items-added h = (λ i. itemsOf (caseBy (counts-added i) noLoops [] (arrays-added h i))) ∙ items-of (added x k r)
 
 -- ---- a case that is its items
 
 abbrev pub Kept : Case → Type 0
 Kept c = c ≡ caseOf (itemsOf c)
-
-pub sound-is-kept : {c : Case} → Sound c → Kept c
-sound-is-kept s = s .same
 
 module _ (c : Case) (s : Kept c) where
   pub kept-counts : c .count ≡ countsOf (itemsOf c)
@@ -158,8 +189,11 @@ module _ {c : Case} (s : Sound c) where
   total-room = sum-le (countOf (c .count)) roomOf (s .room) allKinds
 
   -- what is kept beside the items follows from them
-  pub derived : c .derived ≡ derivedOf (itemsOf c)
-  derived = ap (λ (d : Case). d .derived) (s .same)
+  pub loops-are : c .loops ≡ loopsFrom noLoops 0 (itemsOf c .places)
+  loops-are = ap (λ (d : Case). d .loops) (s .same)
+
+  pub drifts-are : c .drifts ≡ driftsOf (itemsOf c)
+  drifts-are = ap (λ (d : Case). d .drifts) (s .same)
 
   -- each array is the items, and empty ones up to the room
   pub padded : (k : Kind) → listOf k (arraysOf c) ≡ filled (itemsOf c) k
@@ -174,14 +208,11 @@ module _ {c : Case} (s : Sound c) where
 -- ---- a case with one item more
 
 module _ (c : Case) (k : Kind) (r : List Field) (s : Kept c) (h : countOf (c .count) k < roomOf k) where
-  with-added : with c k r ≡ caseOf (added (itemsOf c) k r)
-  with-added = ap (λ (d : Case). with d k r) s ∙ with-is (itemsOf c) k r (omega (arith, kept-counted c s k))
-
   pub items-with : itemsOf (with c k r) ≡ added (itemsOf c) k r
-  items-with = ap itemsOf with-added ∙ items-of (added (itemsOf c) k r)
+  items-with = ap (λ (d : Case). itemsOf (with d k r)) s ∙ items-added (itemsOf c) k r (omega (arith, kept-counted c s k))
 
-  pub kept-with : Kept (with c k r)
-  kept-with = with-added ∙ ap caseOf (sym items-with)
+  pub kept-with : MayFollow (itemsOf c) k r → Kept (with c k r)
+  kept-with m = ap (λ (d : Case). with d k r) s ∙ with-is (itemsOf c) k r m (omega (arith, kept-counted c s k)) ∙ ap caseOf (sym items-with)
 
   pub same-kind : listOf k (itemsOf (with c k r)) ≡ listOf k (itemsOf c) ++ (itemOf k r ∷ [])
   same-kind = ap (listOf k) items-with ∙ added-same (itemsOf c) k r
@@ -225,6 +256,7 @@ pub record Placed (l : Loops) (n : ℕ) (r : List Field) : Type 0 where
 
 -- a record of kind k may come where so many items and these loops are held
 pub record Next (n : Counts) (l : Loops) (k : Kind) (r : Record) : Type 0 where
+  pub order : HeldAbove n (rankOf k) → ⊥
   pub room : countOf n k < roomOf k
   pub there : There n k (r .fields)
   pub place : k ≡ Place → Placed l (n .places) (r .fields)
@@ -274,6 +306,7 @@ next-is n l k bs e =
     let p1 = passed (leb (roomOf k) (countOf n k)) NoRoom (thereAnswer n l s r) refl (p0 .1) in
     let p2 = passed (leb m fields) (NotThere m) (layoutAnswer k n l (r .fields)) refl (p1 .1) in
     record {
+      order = tells-not _ (tells-last n (rankOf k)) (p0 .0);
       room = leb-false (roomOf k) (countOf n k) (p1 .0);
       there = λ g. tells-not _ (tells-there k (r .fields) g n) (fault-none (fault.NotThere n) s bs (leb-false m fields (p2 .0)) g);
       place = λ i. place-is l (n .places) (r .fields) (subst (λ j. isTaken (layoutAnswer j n l (r .fields)) ≡ true) i (p2 .1));

@@ -20,8 +20,9 @@ use Rattle.record.specs.Layout.{at, recordOf}
 use Rattle.kinds.specs.declared.Kind.{Kind}
 use Rattle.kinds.specs.declared.Kind.the-variants as kind
 use Rattle.kinds.specs.declared.Counts.{Counts}
-use Rattle.kinds.specs.Kinds.{countOf, same}
-use Rattle.kinds.specs.Laws.{same-is, by-kind, count-own, count-rest}
+use Rattle.kinds.specs.Kinds.{countOf, rankOf, same}
+use Rattle.kinds.specs.Last.{kindAt}
+use Rattle.kinds.specs.Laws.{same-is, same-self, kind-at, rank-below, by-kind, count-own, count-rest}
 use Rattle.kinds.specs.Contents.{natural, isNumber, isBlank}
 use Rattle.table.specs.Sorts as sort
 use Rattle.table.specs.Table.{neededIf, inFilled, ruleAt, shapeOf}
@@ -36,13 +37,12 @@ use Rattle.answers.specs.Answers.{isTaken}
 use Rattle.checks.specs.Faults.{outside}
 use Rattle.standing.specs.declared.Loops.{Loops}
 use Rattle.standing.specs.Standing.{noLoops, loopsFrom, isClosed, isOpen, isLong}
-use Rattle.collector.specs.declared.Derived.{Derived}
 use Rattle.collector.specs.declared.Case.{Case}
 use Rattle.collector.specs.Cases.{itemsOf, oneMore, with, emptyCase}
 use Rattle.collector.specs.Taking.{takenOf}
 use Rattle.collector.specs.Sound.{Sound, Fit, There, reach, shape, LoopsApart}
 use Rattle.rules_laws.specs.Fields.{met, fields-again}
-use Rattle.rules_laws.specs.Held.{count-more, count-other, counted, kept-counted, derived, items-with, same-kind, other-list, kept-with, empty-kept, empty-list, refused-same, Placed, IsTaken, taken-with}
+use Rattle.rules_laws.specs.Held.{count-more, count-other, counted, kept-counted, loops-are, items-with, same-kind, other-list, kept-with, empty-kept, empty-list, refused-same, Placed, IsTaken, taken-with}
 use Rattle.rules_laws.specs.Loops.{MarkMayCome, apart-snoc}
 
 -- ---- what is there stays there
@@ -122,10 +122,10 @@ mark-fits : (l : Loops) (n : ℕ) (m : LoopMark) → n < roomOf kind.Place → i
     (isNumber (lengthField m) && (isOpen l n || isLong n (natural (lengthField m)))) ≡ false →
     ((z : ℕ) → lengthField m ≡ content.Number (pos z) → 0 < z) → MarkMayCome l n m
 mark-fits l n mark.None h g e w =
-    record { going = g; apart = λ x. absurd (x refl); within = omega arith; whole = λ x. absurd (true≢false (sym x)) }
+    record { going = g; apart = λ x. absurd (x refl); within = omega arith; whole = λ x. absurd (x refl) }
 mark-fits l n (mark.Counted z r b) h g e w =
     let t = neither (isOpen l n) (isLong n z) e in
-    record { going = g; apart = λ x. t .0; within = ltb-false (roomOf kind.Place) (n + z) (t .1); whole = λ x. absurd (true≢false (sym x)) }
+    record { going = g; apart = λ x. t .0; within = ltb-false (roomOf kind.Place) (n + z) (t .1); whole = λ x. w z refl }
 mark-fits l n (mark.Endless z b) h g e w =
     let t = neither (isOpen l n) (isLong n z) e in
     record { going = g; apart = λ x. t .0; within = ltb-false (roomOf kind.Place) (n + z) (t .1); whole = λ x. w z refl }
@@ -148,16 +148,36 @@ record Places (n : ℕ) (ps : List Place) : Type 0 where
   ways : (i : ℕ) → i < n → (i ≡ 0) ↔ (getD ps i (noItem kind.Place) .way ≡ ref.None)
   loops : LoopsApart ps
 
+-- a kind but that of places comes before it
+before-place : (k : Kind) → same k kind.Place ≡ false → rankOf k < rankOf kind.Place
+before-place k e =
+    elim (decLt (rankOf k) (rankOf kind.Place)) [
+      | yes h ↦ h
+      | no h ↦
+          let i : rankOf k ≡ rankOf kind.Place = omega (arith, rank-below k) in
+          absurd (true≢false (sym (same-self kind.Place) ∙ ap (λ j. same j kind.Place) (sym (ap kindAt i) ∙ kind-at k) ∙ e))
+    ]
+
+empty-of : {A : Type 0} (l : List A) → length l ≡ 0 → l ≡ []
+empty-of [] e = refl
+empty-of (x ∷ l) e = absurd (omega arith)
+
+-- place p may come as place n, where these loops are held
+module _ (l : Loops) (n : ℕ) (p : Place) (h : n < roomOf kind.Place) (f : Fit kind.Place (rowOf kind.Place p)) (t : Placed l n (rowOf kind.Place p)) where
+  may-come : MarkMayCome l n (p .mark)
+  may-come =
+      let q : at (rowOf kind.Place p) 4 ≡ lengthField (p .mark) = field-four (p .state) (p .way) (p .marks) (p .mark) in
+      mark-fits l n (p .mark) h (t .before) (rw q at (t .mark)) (λ j g. long-enough (rowOf kind.Place p) f j (q ∙ g))
+
+  comes-by : (n ≡ 0) ↔ (p .way ≡ ref.None)
+  comes-by = way-at n (p .way) (rw (field-two p) at (t .way))
+
 one-place : (n : ℕ) (ps : List Place) (p : Place) → length ps ≡ n → n < roomOf kind.Place → Places n ps →
-    Fit kind.Place (rowOf kind.Place p) → Placed (loopsFrom noLoops 0 ps) n (rowOf kind.Place p) → Places (n + 1) (ps ++ (p ∷ []))
-one-place n ps p e h s f t =
-    let l = loopsFrom noLoops 0 ps in
-    let q : at (rowOf kind.Place p) 4 ≡ lengthField (p .mark) = field-four (p .state) (p .way) (p .marks) (p .mark) in
-    let w : (n ≡ 0) ↔ (p .way ≡ ref.None) = way-at n (p .way) (rw (field-two p) at (t .way)) in
-    let m : MarkMayCome l n (p .mark) = mark-fits l n (p .mark) h (t .before) (rw q at (t .mark)) (λ j g. long-enough (rowOf kind.Place p) f j (q ∙ g)) in
+    (n ≡ 0) ↔ (p .way ≡ ref.None) → MarkMayCome (loopsFrom noLoops 0 ps) n (p .mark) → Places (n + 1) (ps ++ (p ∷ []))
+one-place n ps p e h s w m =
     record {
       ways = all-snoc (λ i (q : Place). (i ≡ 0) ↔ (q .way ≡ ref.None)) ps p (noItem kind.Place) n e (s .ways) w;
-      loops = apart-snoc ps p (s .loops) (subst (λ j. MarkMayCome l j (p .mark)) (sym e) m) (omega arith);
+      loops = apart-snoc ps p (s .loops) (subst (λ j. MarkMayCome (loopsFrom noLoops 0 ps) j (p .mark)) (sym e) m) (omega arith);
     }
 
 module _ (c : Case) (s : Sound c) where
@@ -179,25 +199,47 @@ module _ (c : Case) (s : Sound c) where
     unfolding recordOf
     again = fields-again k r refl (t .fit)
 
+    -- the number of places and the places
+    abbrev n : ℕ
+    n = c .count .places
+
+    abbrev ps : List Place
+    ps = itemsOf c .places
+
+    -- a place that is taken
+    module _ (e : k ≡ kind.Place) where
+      row : rowOf kind.Place (placeOf r) ≡ r
+      row = subst (λ j. rowOf j (itemOf j r) ≡ r) e again
+
+      held : n < roomOf kind.Place
+      held = subst (λ j. countOf (c .count) j < roomOf j) e (t .next .room)
+
+      fit : Fit kind.Place (rowOf kind.Place (placeOf r))
+      fit = subst (Fit kind.Place) (sym row) (subst (λ j. Fit j r) e (t .fit))
+
+      placed : Placed (loopsFrom noLoops 0 ps) n (rowOf kind.Place (placeOf r))
+      placed = subst₂ (λ l r. Placed l n r) (loops-are s) (sym row) (t .next .place e)
+
+      mark-may-come : MarkMayCome (loopsFrom noLoops 0 ps) n (placeOf r .mark)
+      mark-may-come = may-come (loopsFrom noLoops 0 ps) n (placeOf r) held fit placed
+
+      next-places : Places (n + 1) (ps ++ (placeOf r ∷ []))
+      next-places =
+          one-place n ps (placeOf r) (counted c s kind.Place) held places (comes-by (loopsFrom noLoops 0 ps) n (placeOf r) held fit placed) mark-may-come
+
+    -- no other kind comes after a place
+    none-yet : same k kind.Place ≡ false → ps ≡ []
+    none-yet e = empty-of ps (elim (decLt 0 n) [
+      | yes h ↦ absurd (t .next .order (kind.Place, before-place k e, h))
+      | no h ↦ omega (arith, counted c s kind.Place)
+    ])
+
     places-with : Places (with c k r .count .places) (itemsOf (with c k r) .places)
     places-with =
         subst (λ (y : Items). Places (with c k r .count .places) (y .places)) (sym (items-with c k r (s .same) (t .next .room))) (go (same k kind.Place) refl)
       where
-        n : ℕ
-        n = c .count .places
-
-        ps : List Place
-        ps = itemsOf c .places
-
-        here : k ≡ kind.Place → Places (n + 1) (ps ++ (placeOf r ∷ []))
-        here e =
-            let q : rowOf kind.Place (placeOf r) ≡ r = subst (λ j. rowOf j (itemOf j r) ≡ r) e again in
-            one-place n ps (placeOf r) (counted c s kind.Place) (subst (λ j. countOf (c .count) j < roomOf j) e (t .next .room)) places
-            (subst (Fit kind.Place) (sym q) (subst (λ j. Fit j r) e (t .fit)))
-            (subst₂ (λ (d : Derived) r. Placed (d .loops) n r) (derived s) (sym q) (t .next .place e))
-
         go : (b : Bool) → same k kind.Place ≡ b → Places (cond b (n + 1) n) (cond b (ps ++ (placeOf r ∷ [])) ps)
-        go true e = here (same-is k kind.Place e)
+        go true e = next-places (same-is k kind.Place e)
         go false e = places
 
     -- what is true of every item that is held, and of the next
@@ -216,7 +258,9 @@ module _ (c : Case) (s : Sound c) where
     sound-with : Sound (with c k r)
     sound-with =
         record {
-          same = kept-with c k r (s .same) (t .next .room);
+          same =
+              kept-with c k r (s .same) (t .next .room)
+              (record { place = λ e. (next-places e .loops, mark-may-come e .whole); other = none-yet });
           room =
               by-kind (λ j. countOf (with c k r .count) j ≤ roomOf j) k (omega (arith, count-more (c .count) k, t .next .room))
               (λ j o. omega (arith, count-other (c .count) k j o, s .room j));

@@ -3,6 +3,7 @@ pub mod Letters
 pub mod Fields
 pub mod Held
 pub mod Loops
+pub mod Drifts
 pub mod Stages
 pub mod Bytes
 pub mod First

@@ -1,16 +1,16 @@
 -- What the loops kept beside the places say of them: the last loop, whether the endless one has closed, whether one is open;
 -- and that a place that passes the tests leaves the loops apart. Assumes nothing.
-use mathlib.Core.Path.{_≡_, refl, _∙_, sym, ap, ap₂}
-use mathlib.Core.Logic.{_↔_, _⊎_, inl, inr}
+use mathlib.Core.Path.{_≡_, refl, _∙_, sym, ap, ap₂, subst}
+use mathlib.Core.Logic.{_↔_, _⊎_, inl, inr, ⊎-elim}
 use mathlib.Core.List.{List, [], _∷_, _++_}
-use mathlib.Core.Bool.{Bool, true, false, _&&_, true≢false}
+use mathlib.Core.Bool.{Bool, true, false, _&&_, true≢false, and-eq-true-iff}
 use Prim.Native.Nat.{ℕ, zero, suc, _+_, _≤_, _<_}
 use native.Mathlib.Omega.{arith}
 use native.Mathlib.Decide.{decLt}
-use lib.Dec.{leb}
+use lib.Dec.{leb, eqb}
 use lib.ListN.{length, length-append, List·getD-append, List·getD-eq-default}
 use lib.Seq.{getD-at}
-use borrow.Author.Tests.{ltb-true, lt-ltb, leb-true, le-leb}
+use borrow.Author.Tests.{ltb-true, lt-ltb, leb-true, le-leb, eqb-true, eq-eqb}
 use Rattle.kinds.specs.declared.Kind.the-variants as kind
 use Rattle.items.specs.declared.LoopMark.{LoopMark}
 use Rattle.items.specs.declared.LoopMark.the-variants as mark
@@ -18,7 +18,7 @@ use Rattle.items.specs.declared.Place.{Place}
 use Rattle.items.specs.Lists.{Items, roomOf, noItem}
 use Rattle.rules.specs.Rules.{markAt, lengthOf, isEndless, endAt, Closed, Open}
 use Rattle.standing.specs.declared.Loops.{Loops}
-use Rattle.standing.specs.Standing.{noLoops, loopsAfter, loopsFrom, isClosed, isOpen}
+use Rattle.standing.specs.Standing.{noLoops, loopsAfter, loopsFrom, isClosed, isOpen, isLoopEnd}
 use Rattle.collector.specs.Sound.{LoopsApart}
 
 pub loops-snoc : (l : Loops) (n : ℕ) (ps : List Place) (p : Place) →
@@ -44,6 +44,7 @@ record LastLoop (n : ℕ) (ps : List Place) (l : Loops) : Type 0 where
   first : ℕ
   held : first < length ps
   marked : markAt ps first ≡ mark.None → ⊥
+  begin : l .first .0 ≡ n + first
   end : l .end .0 ≡ n + endAt ps first
   endless : l .endless ≡ isEndless (markAt ps first)
   later : (q : ℕ) → first < q → markAt ps q ≡ mark.None
@@ -51,16 +52,16 @@ record LastLoop (n : ℕ) (ps : List Place) (l : Loops) : Type 0 where
 abbrev Last : Loops → ℕ → List Place → Loops → Type 0
 Last l₀ n ps l = NoLoop l₀ ps l ⊎ LastLoop n ps l
 
-marked? : (m : LoopMark) → (m ≡ mark.None) ⊎ (m ≡ mark.None → ⊥)
+pub marked? : (m : LoopMark) → (m ≡ mark.None) ⊎ (m ≡ mark.None → ⊥)
 marked? mark.None = inl refl
 marked? (mark.Counted l n b) = inr (λ e. let z : _≡_ {A = ℕ} 0 1 = cc in omega arith)
 marked? (mark.Endless l b) = inr (λ e. let z : _≡_ {A = ℕ} 0 1 = cc in omega arith)
 
 after-mark : (l : Loops) (n : ℕ) (m : LoopMark) → (m ≡ mark.None → ⊥) →
-    (loopsAfter l n m .end .0 ≡ n + lengthOf m) × (loopsAfter l n m .endless ≡ isEndless m)
+    (loopsAfter l n m .first .0 ≡ n) × (loopsAfter l n m .end .0 ≡ n + lengthOf m) × (loopsAfter l n m .endless ≡ isEndless m)
 after-mark l n mark.None h = absurd (h refl)
-after-mark l n (mark.Counted len r b) h = (refl, refl)
-after-mark l n (mark.Endless len b) h = (refl, refl)
+after-mark l n (mark.Counted len r b) h = (refl, refl, refl)
+after-mark l n (mark.Endless len b) h = (refl, refl, refl)
 
 module _ (l₀ : Loops) (n : ℕ) (p : Place) (ps : List Place) (l : Loops) where
   one-before : (p .mark ≡ mark.None) ⊎ (p .mark ≡ mark.None → ⊥) → Last (loopsAfter l₀ n (p .mark)) (n + 1) ps l → Last l₀ n (p ∷ ps) l
@@ -70,6 +71,7 @@ module _ (l₀ : Loops) (n : ℕ) (p : Place) (ps : List Place) (l : Loops) wher
         first = suc (t .first);
         held = omega (arith, t .held);
         marked = t .marked;
+        begin = omega (arith, t .begin);
         end = omega (arith, t .end);
         endless = t .endless;
         later = λ q. elim q [ zero ↦ λ h. absurd (omega arith) | suc r ↦ λ h. t .later r (omega arith) ];
@@ -83,8 +85,9 @@ module _ (l₀ : Loops) (n : ℕ) (p : Place) (ps : List Place) (l : Loops) wher
         first = 0;
         held = omega arith;
         marked = h;
-        end = omega (arith, ap (λ (x : Loops). x .end .0) (t .before), a .0);
-        endless = ap (λ (x : Loops). x .endless) (t .before) ∙ a .1;
+        begin = omega (arith, ap (λ (x : Loops). x .first .0) (t .before), a .0);
+        end = omega (arith, ap (λ (x : Loops). x .end .0) (t .before), a .1);
+        endless = ap (λ (x : Loops). x .endless) (t .before) ∙ a .2;
         later = λ q. elim q [ zero ↦ λ g. absurd (omega arith) | suc r ↦ λ g. t .none r ];
       })
 
@@ -99,10 +102,6 @@ last-loop l₀ n (p ∷ ps) =
 
 clash : {b : Bool} → b ≡ true → b ≡ false → ⊥
 clash e f = true≢false (sym e ∙ f)
-
-both-true : (b d : Bool) → (b && d) ≡ true → (b ≡ true) × (d ≡ true)
-both-true true d e = (refl, e)
-both-true false d e = absurd (clash e refl)
 
 -- the loops of all places
 abbrev loopsOf : List Place → Loops
@@ -120,25 +119,25 @@ module _ (ps : List Place) (l : Loops) where
 
   -- where loops are apart, one that takes in the last place is the last
   reaches : LoopsApart ps → Last noLoops 0 ps l → (f : ℕ) → length ps ≤ endAt ps f → (markAt ps f ≡ mark.None → ⊥) →
-      (l .end .0 ≡ endAt ps f) × (l .endless ≡ isEndless (markAt ps f))
+      (l .first .0 ≡ f) × (l .end .0 ≡ endAt ps f) × (l .endless ≡ isEndless (markAt ps f))
   reaches a (inl t) f r m = absurd (m (t .none f))
   reaches a (inr t) f r m =
       let q = t .first in
       let b : q ≤ f = elim (decLt f q) [ yes h ↦ absurd (omega (arith, a .apart f q h (t .held) (t .marked))) | no h ↦ omega arith ] in
       let c : f ≤ q = elim (decLt q f) [ yes h ↦ absurd (m (t .later f h)) | no h ↦ omega arith ] in
       let e : q ≡ f = omega arith in
-      (omega (arith, t .end, ap (endAt ps) e), t .endless ∙ ap (λ i. isEndless (markAt ps i)) e)
+      (omega (arith, t .begin), omega (arith, t .end, ap (endAt ps) e), t .endless ∙ ap (λ i. isEndless (markAt ps i)) e)
 
 module _ (ps : List Place) (a : LoopsApart ps) where
   tells-closed : (f : ℕ) → isEndless (markAt ps f) ≡ true → endAt ps f ≤ length ps → isClosed (loopsOf ps) (length ps) ≡ true
   tells-closed f e h =
       let r = reaches ps (loopsOf ps) a (last-loop noLoops 0 ps) f (a .last f e) (λ n. clash e (ap isEndless n)) in
-      ap₂ _&&_ (r .1 ∙ e) (le-leb (loopsOf ps .end .0) (length ps) (omega (arith, r .0)))
+      ap₂ _&&_ (r .2 ∙ e) (le-leb (loopsOf ps .end .0) (length ps) (omega (arith, r .1)))
 
   tells-open : (f : ℕ) → f < length ps → length ps < endAt ps f → isOpen (loopsOf ps) (length ps) ≡ true
   tells-open f b h =
       let r = reaches ps (loopsOf ps) a (last-loop noLoops 0 ps) f (omega arith) (λ n. absurd (omega (arith, ap lengthOf n))) in
-      lt-ltb (length ps) (loopsOf ps .end .0) (omega (arith, r .0))
+      lt-ltb (length ps) (loopsOf ps .end .0) (omega (arith, r .1))
 
 module _ (x : Items) (a : LoopsApart (x .places)) where
   abbrev ps : List Place
@@ -148,7 +147,7 @@ module _ (x : Items) (a : LoopsApart (x .places)) where
   pub closed-is : (isClosed (loopsFrom noLoops 0 (x .places)) (length (x .places)) ≡ true) ↔ Closed x
   closed-is = (
     λ e.
-        let t = both-true (loopsOf ps .endless) (leb (loopsOf ps .end .0) (length ps)) e in
+        let t = and-eq-true-iff (loopsOf ps .endless) (leb (loopsOf ps .end .0) (length ps)) .0 e in
         let r = endless-at ps (loopsOf ps) (last-loop noLoops 0 ps) (t .0) in
         record { first = r .0; endless = r .1; whole = omega (arith, r .2, leb-true (loopsOf ps .end .0) (length ps) (t .1)) },
     λ c. tells-closed ps a (c .first) (c .endless) (c .whole),
@@ -163,6 +162,30 @@ module _ (x : Items) (a : LoopsApart (x .places)) where
     λ o. tells-open ps a (o .first) (o .begun) (o .more),
   )
 
+-- place n, the last that is held, is the last of a loop: the last one, and no other
+module _ (ps : List Place) (n : ℕ) (long : length ps ≡ n + 1) where
+  ends-by : (l : Loops) → Last noLoops 0 ps l → isLoopEnd l n ≡ true →
+      (markAt ps (l .first .0) ≡ mark.None → ⊥) × (endAt ps (l .first .0) ≡ n + 1) × (l .first .0 ≤ n)
+  ends-by l t e =
+      let (b, r) = and-eq-true-iff (leb (l .first .0) n) (eqb (l .end .0) (n + 1)) .0 e in
+      ⊎-elim
+      (λ w. absurd (omega (arith, ap (λ (x : Loops). x .end .0) (w .before), eqb-true (l .end .0) (n + 1) r)))
+      (λ w.
+      let f : w .first ≡ l .first .0 = omega (arith, w .begin) in
+      (subst (λ q. markAt ps q ≡ mark.None → ⊥) f (w .marked), omega (arith, w .end, eqb-true (l .end .0) (n + 1) r, ap (endAt ps) f), leb-true (l .first .0) n b))
+      t
+
+  pub ends : isLoopEnd (loopsFrom noLoops 0 ps) n ≡ true →
+      let q = loopsFrom noLoops 0 ps .first .0 in (markAt ps q ≡ mark.None → ⊥) × (endAt ps q ≡ n + 1) × (q ≤ n)
+  ends = ends-by (loopsOf ps) (last-loop noLoops 0 ps)
+
+  pub ends-only : LoopsApart ps → (q : ℕ) → q ≤ n → (markAt ps q ≡ mark.None → ⊥) → endAt ps q ≡ n + 1 →
+      (isLoopEnd (loopsFrom noLoops 0 ps) n ≡ true) × (q ≡ loopsFrom noLoops 0 ps .first .0)
+  ends-only a q h m e =
+      let l = loopsOf ps in
+      let r = reaches ps l a (last-loop noLoops 0 ps) q (omega arith) m in
+      (ap₂ _&&_ (le-leb (l .first .0) n (omega (arith, r .0))) (eq-eqb (l .end .0) (n + 1) (r .1 ∙ e)), sym (r .0))
+
 -- ---- one place more
 
 -- a place with this mark may come as place n, where these loops are held
@@ -170,26 +193,26 @@ pub record MarkMayCome (l : Loops) (n : ℕ) (m : LoopMark) : Type 0 where
   pub going : isClosed l n ≡ false
   pub apart : (m ≡ mark.None → ⊥) → isOpen l n ≡ false
   pub within : n + lengthOf m ≤ roomOf kind.Place
-  pub whole : isEndless m ≡ true → 0 < lengthOf m
+  pub whole : (m ≡ mark.None → ⊥) → 0 < lengthOf m
 
 module _ (ps : List Place) (p : Place) where
   abbrev oneMorePlace : List Place
   oneMorePlace = ps ++ (p ∷ [])
 
-  old-mark : (i : ℕ) → i < length ps → markAt oneMorePlace i ≡ markAt ps i
+  pub old-mark : (i : ℕ) → i < length ps → markAt oneMorePlace i ≡ markAt ps i
   old-mark i h = ap (λ (q : Place). q .mark) (List·getD-append ps (p ∷ []) (noItem kind.Place) i h)
 
-  new-mark : (i : ℕ) → i ≡ length ps → markAt oneMorePlace i ≡ p .mark
+  pub new-mark : (i : ℕ) → i ≡ length ps → markAt oneMorePlace i ≡ p .mark
   new-mark i e = ap (λ (q : Place). q .mark) (getD-at ps p [] (noItem kind.Place) i (sym e))
 
-  long : length oneMorePlace ≡ length ps + 1
+  pub long : length (ps ++ (p ∷ [])) ≡ length ps + 1
   long = length-append ps (p ∷ [])
 
   -- a place is one before, the new one, or has no mark
-  abbrev Where : ℕ → Type 0
+  abbrev pub Where : ℕ → Type 0
   Where i = (i < length ps) ⊎ (i ≡ length ps) ⊎ (markAt oneMorePlace i ≡ mark.None)
 
-  where? : (i : ℕ) → Where i
+  pub where? : (i : ℕ) → Where i
   where? i =
       elim (decLt i (length ps)) [
         | yes h ↦ inl h
@@ -222,7 +245,7 @@ module _ (ps : List Place) (p : Place) where
     last-at : (i : ℕ) → isEndless (markAt oneMorePlace i) ≡ true → Where i → length oneMorePlace ≤ endAt oneMorePlace i
     last-at i e (inl g) = omega (arith, ap lengthOf (old-mark i g), long, not-closed i (ap isEndless (sym (old-mark i g)) ∙ e))
     last-at i e (inr (inl g)) =
-        omega (arith, ap lengthOf (new-mark i g), long, f .whole (ap isEndless (sym (new-mark i g)) ∙ e))
+        omega (arith, ap lengthOf (new-mark i g), long, f .whole (λ n. clash (ap isEndless (sym (new-mark i g)) ∙ e) (ap isEndless n)))
     last-at i e (inr (inr g)) = absurd (clash e (ap isEndless g))
 
     pub apart-snoc : LoopsApart (ps ++ (p ∷ []))

@@ -25,7 +25,9 @@ use Rattle.collector.specs.declared.Collected.{Collected}
 use Rattle.collector.specs.Cases.{itemsOf, oneMore, emptyCase}
 use Rattle.collector.specs.Taking.{takenOf, collectedFrom, collectedOf}
 use Rattle.rules_laws.specs.Fields.{fields-again}
-use Rattle.rules_laws.specs.Held.{Kept, IsTaken, same-kind, other-list, kept-with, kept-counts, empty-kept, empty-list, taken-with}
+use Rattle.collector.specs.Sound.{Sound}
+use Rattle.rules_laws.specs.Held.{IsTaken, same-kind, other-list, counts-are, empty-list, taken-with}
+use Rattle.rules_laws.specs.Kept.{sound-empty, sound-kept}
 
 -- ---- one record
 
@@ -54,19 +56,19 @@ empty-size = refl
 
 module _ (c : Case) (b : List ℕ) (rs : List (List ℕ)) (t : IsTaken c b) where
   -- what it adds to the items
-  pub lists-more : Kept c → (j : Kind) →
+  pub lists-more : Sound c → (j : Kind) →
       listOf j (itemsOf (takenOf c b .case)) ++ map (itemOf j) (rowsOf j rs) ≡ listOf j (itemsOf c) ++ map (itemOf j) (rowsOf j (b ∷ rs))
   lists-more s =
       by-kind
       (λ j. listOf j (itemsOf (takenOf c b .case)) ++ map (itemOf j) (rowsOf j rs) ≡ listOf j (itemsOf c) ++ map (itemOf j) (rowsOf j (b ∷ rs)))
       k
       (ap (λ d. listOf k (itemsOf d) ++ map (itemOf k) (rowsOf k rs)) (t .case)
-      ∙ ap (λ l. l ++ map (itemOf k) (rowsOf k rs)) (same-kind c k r s (t .next .room))
+      ∙ ap (λ l. l ++ map (itemOf k) (rowsOf k rs)) (same-kind c k r (s .same) (t .next .room))
       ∙ append-snoc (listOf k (itemsOf c)) (itemOf k r) (map (itemOf k) (rowsOf k rs))
       ∙ ap (λ l. listOf k (itemsOf c) ++ map (itemOf k) l) (sym (rows-same b rs k (t .letter))))
       (λ j o.
       ap (λ d. listOf j (itemsOf d) ++ map (itemOf j) (rowsOf j rs)) (t .case)
-      ∙ ap₂ (λ l r. l ++ map (itemOf j) r) (other-list c k r s (t .next .room) j o) (sym (rows-other b rs k (t .letter) j o)))
+      ∙ ap₂ (λ l r. l ++ map (itemOf j) r) (other-list c k r (s .same) (t .next .room) j o) (sym (rows-other b rs k (t .letter) j o)))
     where
       k : Kind
       k = t .kind
@@ -83,22 +85,18 @@ module _ (c : Case) (b : List ℕ) (rs : List (List ℕ)) (t : IsTaken c b) wher
       (ap₂ (λ r l. r ∷ l) (fields-again (t .kind) (recordOf b .fields) (length-row b) (t .fit)) (f (t .kind))))
       (λ j o. rw (rows-other b rs (t .kind) (t .letter) j o) (f j))
 
-  kept-more : Kept c → Kept (takenOf c b .case)
-  kept-more s = subst Kept (sym (t .case)) (kept-with c (t .kind) (recordOf b .fields) s (t .next .room))
-
   -- there is one item more
-  pub size-more : Kept c → itemCount (itemsOf (takenOf c b .case)) ≡ itemCount (itemsOf c) + 1
+  pub size-more : Sound c → itemCount (itemsOf (takenOf c b .case)) ≡ itemCount (itemsOf c) + 1
   size-more s =
-      ap countsTotal (sym (kept-counts (takenOf c b .case) (kept-more s)))
+      ap countsTotal (sym (counts-are (takenOf c b .case) (sound-kept c b s)))
       ∙ ap (λ d. countsTotal (d .count)) (t .case)
       ∙ total-more (c .count) (t .kind)
-      ∙ ap (λ n. countsTotal n + 1) (kept-counts c s)
+      ∙ ap (λ n. countsTotal n + 1) (counts-are c s)
 
 -- ---- a row of records
 
 -- what taking records rs to their end makes of the case c, where m were taken before
 record Ran (c : Case) (m : ℕ) (rs : List (List ℕ)) (r : Collected) : Type 0 where
-  kept : Kept (r .case)
   lists : (j : Kind) → listOf j (itemsOf (r .case)) ≡ listOf j (itemsOf c) ++ map (itemOf j) (rowsOf j rs)
   rows : (j : Kind) → map (rowOf j) (map (itemOf j) (rowsOf j rs)) ≡ rowsOf j rs
   taken : r .taken ≡ m + length rs
@@ -108,11 +106,10 @@ pub goes-on : (t : Bool) (a b : Collected) → isTaken (b .answer) ≡ t → isT
 goes-on true a b e h = (refl, refl)
 goes-on false a b e h = absurd (true≢false (sym h ∙ e))
 
-ran : (rs : List (List ℕ)) (c : Case) (m : ℕ) → Kept c → isTaken (collectedFrom c m rs .answer) ≡ true → Ran c m rs (collectedFrom c m rs)
+ran : (rs : List (List ℕ)) (c : Case) (m : ℕ) → Sound c → isTaken (collectedFrom c m rs .answer) ≡ true → Ran c m rs (collectedFrom c m rs)
 unfolding collectedFrom rowsOf
 ran [] c m s h =
     record {
-      kept = s;
       lists = λ j. sym (append-nil (listOf j (itemsOf c)));
       rows = λ j. refl;
       taken = omega arith;
@@ -123,10 +120,9 @@ ran (b ∷ rs) c m s h =
     let rest = collectedFrom (t .case) (m + 1) rs in
     let p = goes-on (isTaken (t .answer)) rest (record { case = t .case; answer = t .answer; taken = m }) refl h in
     let k = taken-with c b (p .0) in
-    let r = ran rs (t .case) (m + 1) (kept-more c b rs k s) (subst (λ q. isTaken (q .answer) ≡ true) (p .1) h) in
+    let r = ran rs (t .case) (m + 1) (sound-kept c b s) (subst (λ q. isTaken (q .answer) ≡ true) (p .1) h) in
     subst (Ran c m (b ∷ rs)) (sym (p .1))
     (record {
-      kept = r .kept;
       lists = λ j. r .lists j ∙ lists-more c b rs k s j;
       rows = rows-more c b rs k (r .rows);
       taken = omega (arith, r .taken);
@@ -154,7 +150,7 @@ spells rs h =
     }
   where
     r : Ran emptyCase 0 rs (collectedFrom emptyCase 0 rs)
-    r = ran rs emptyCase 0 empty-kept h
+    r = ran rs emptyCase 0 sound-empty h
 
     list : (k : Kind) → listOf k (itemsOf (collectedFrom emptyCase 0 rs .case)) ≡ map (itemOf k) (rowsOf k rs)
     list k = r .lists k ∙ ap (λ l. l ++ map (itemOf k) (rowsOf k rs)) (empty-list k)
