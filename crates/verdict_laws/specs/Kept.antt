@@ -4,12 +4,11 @@ use mathlib.Core.List.{List}
 use mathlib.Core.Bool.{Bool, true, false, cond, true≢false}
 use Prim.Native.Nat.{ℕ, zero, suc, _+_, _-_, _≤_, _<_}
 use native.Mathlib.Numerals.{add-one}
-use native.Mathlib.Nat.{add-zero}
+use native.Mathlib.Nat.{add-zero, add-suc, sub-self, add-sub-of-le}
 use native.Mathlib.Omega.{arith}
-use lib.IntN.{ℤ, pos, _+ℤ_, _-ℤ_, _*ℤ_, +ℤ-assoc, +ℤ-comm, +ℤ-idr, +ℤ-invr}
+use lib.IntN.{ℤ, pos, _+ℤ_, _*ℤ_, +ℤ-assoc, +ℤ-comm, +ℤ-idr}
 use lib.ListN.{length}
 use borrow.Author.Tests.{ltb-false, lt-leb, le-leb}
-use Rattle.laws.specs.Arithmetic.{left-comm}
 use Rattle.laws.specs.Members.{Has}
 use Rattle.counters.specs.Sum.{Valuation, sum}
 use Rattle.items.specs.declared.LoopMark.{LoopMark}
@@ -19,16 +18,17 @@ use Rattle.items.specs.declared.Place.{Place}
 use Rattle.items.specs.Lists.{Items}
 use Rattle.rules.specs.Rules.{markAt, Closed}
 use Rattle.meaning.specs.Run.{Moment, Way, here, stretch, goesAgain, spot, wayTaken, moveBy, update, countersAt, Meets, guardAt}
+use Rattle.meaning.specs.Drift.{inBy, backBy, aroundBy, drift}
 use Rattle.meaning.specs.Judged.{waysOf, Test, Passes, Fails}
 use Rattle.meaning_laws.specs.Facts.{Laid, Facts}
 use Rattle.meaning_laws.specs.Stays.{next-by}
 use Rattle.meaning_laws.specs.Between.{sum-same, sum-plus}
 use Rattle.verdict.specs.declared.Throughout.the-variants.{Always}
 use Rattle.verdict.specs.Rounds.{firstOf, loopOf, roundsOf, roundsBy, In}
-use Rattle.verdict.specs.Forward.{inBy, backBy, ways, drift, repeats, base}
+use Rattle.verdict.specs.Forward.{repeats, base}
 use Rattle.verdict.specs.Verdict.{firstSum, roundSum, guardThrough, testThrough}
 use Rattle.verdict_laws.specs.Tells.{TellsHow}
-use Rattle.verdict_laws.specs.Steps.{shift, in-zero, first-by, first-in, first-is, round-in, visit, taken-in, take-in}
+use Rattle.verdict_laws.specs.Steps.{shift, in-zero, first-by, first-le, first-in, first-is, round-in, visit, taken-in, take-in}
 use Rattle.verdict_laws.specs.Lines.{line-zero, line-suc, through-always, through-never, through-unmet, through-met}
 
 -- ---- sums
@@ -75,23 +75,25 @@ module _ (x : Items) (θ : Valuation) (j : ℕ) where
   unfolding base
   base-out p h = rw (le-leb (end ps (firstOf ps p)) (suc p) h)
 
-  -- from the first place of a stretch on
-  along : (p : ℕ) → base x θ j p ≡ base x θ j (firstOf ps p) +ℤ (ways x j p -ℤ ways x j (firstOf ps p))
-  unfolding base firstOf ways
-  along zero = sym (+ℤ-idr (θ j))
+  -- from the first place of a stretch on, with its back move
+  along : (p : ℕ) → base x θ j p +ℤ backBy x j (firstOf ps p) ≡ base x θ j (firstOf ps p) +ℤ aroundBy x j (firstOf ps p) (p - firstOf ps p)
+  unfolding firstOf aroundBy
+  along zero = refl
   along (suc p) =
-      first-by ps (λ f. base x θ j (suc p) ≡ base x θ j f +ℤ (ways x j (suc p) -ℤ ways x j f)) p
-      (λ h. rw (base-on p h, along p, ways, swap-last (ways x j p) (inBy x j (suc p))) (simp +ℤ-assoc))
-      (λ h. rw (+ℤ-invr, +ℤ-idr))
+      first-by ps (λ f. base x θ j (suc p) +ℤ backBy x j f ≡ base x θ j f +ℤ aroundBy x j f (suc p - f)) p
+      (λ h.
+      let d : suc p - firstOf ps p ≡ suc (p - firstOf ps p) = omega (arith, first-le ps p) in
+      rw (d, aroundBy, add-suc, add-sub-of-le (first-le ps p), base-on p h, swap-last (base x θ j p), along p, +ℤ-assoc))
+      (λ h. rw sub-self)
 
   -- z is counter j at place p in round r: what it is a moment on
   module _ (p r : ℕ) {q : ℕ} (e : firstOf ps p ≡ q) {z : ℤ} (k : z ≡ base x θ j p +ℤ pos r *ℤ drift x j q) where
     goes-on : suc p < end ps q → z +ℤ inBy x j (suc p) ≡ base x θ j (suc p) +ℤ pos r *ℤ drift x j q
     goes-on h = rw (k, base-on p (rw e h)) (swap-last (base x θ j p) (pos r *ℤ drift x j q) (inBy x j (suc p)))
 
-    goes-back : end ps q - 1 ≡ p → z +ℤ backBy x j q ≡ base x θ j q +ℤ pos (suc r) *ℤ drift x j q
+    goes-back : p - q ≡ stretch (markAt ps q) - 1 → z +ℤ backBy x j q ≡ base x θ j q +ℤ pos (suc r) *ℤ drift x j q
     unfolding drift
-    goes-back h = rw (k, line-suc, h, along p, e) (simp (+ℤ-assoc, left-comm))
+    goes-back h = rw (k, line-suc, swap-last (base x θ j p), rw (e, h) at (along p)) (swap-last (base x θ j q) (drift x j q) (pos r *ℤ drift x j q))
 
     goes-out : end ps q ≤ suc p → r ≡ repeats (markAt ps q) → z +ℤ inBy x j (suc p) ≡ base x θ j (suc p)
     goes-out h d = rw (k, base-out p (rw e h), e, d)
