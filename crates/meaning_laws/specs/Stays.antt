@@ -59,7 +59,7 @@ module _ (x : Items) (laid : Laid (x .places)) where
   ps = x .places
 
   -- it is in its stretch
-  inside : (m : Moment) → spot ps m .step < stretch (markAt ps (spot ps m .first))
+  pub inside : (m : Moment) → spot (x .places) m .step < stretch (markAt (x .places) (spot (x .places) m .first))
   unfolding spot
   inside zero = omega (arith, laid .long 0)
   inside (suc m) =

@@ -56,7 +56,7 @@ grows ps i (suc d) j e =
     rw w (omega (arith, grows ps i d (i + d) refl, no-less ps (spot ps (i + d))))
 
 -- the spot a moment on
-after : (ps : List Place) {i j : Moment} {x : Spot} {y : Step} → j ≡ suc i → spot ps i ≡ x → next ps x ≡ y → spot ps j ≡ y .to
+pub after : (ps : List Place) {i j : Moment} {x : Spot} {y : Step} → j ≡ suc i → spot ps i ≡ x → next ps x ≡ y → spot ps j ≡ y .to
 unfolding spot
 after ps e d c = ap (spot ps) e ∙ ap (λ x. next ps x .to) d ∙ ap (λ (y : Step). y .to) c
 
@@ -67,22 +67,25 @@ module _ (ps : List Place) (q : ℕ) where
   abbrev L : ℕ
   L = stretch (markAt ps q)
 
-  -- step o of a round
-  along : (m : Moment) (r : ℕ) → spot ps m ≡ spotAt q 0 r → (o : ℕ) → o < L → spot ps (m + o) ≡ spotAt q o r
-  along m r e zero h = let d : m + 0 ≡ m = omega arith in ap (spot ps) d ∙ e
-  along m r e (suc o) h = after ps (omega arith) (along m r e o (omega arith)) (rw add-one at (next-on ps q o r (omega arith)))
+  -- k steps on in a round
+  pub along : (m : Moment) {i r : ℕ} → spot ps m ≡ spotAt q i r → (k : ℕ) {n : Moment} {o : ℕ} → n ≡ m + k → o ≡ i + k →
+      o < stretch (markAt ps q) → spot ps n ≡ spotAt q o r
+  along m {i} {r} e zero {n} {o} d c h = let w : n ≡ m = omega arith in let v : o ≡ i = omega arith in rw (w, v) e
+  along m {i} {r} e (suc k) {n} {o} d c h =
+      let v : o ≡ i + k + 1 = omega arith in
+      rw v (after ps (omega arith) (along m e k refl refl (omega arith)) (next-on ps q (i + k) r (omega arith)))
 
   module _ (m : Moment) (l : 1 ≤ L) (e : spot ps m ≡ spotAt q 0 0) where
     -- where round r begins
     begins : (r : ℕ) → ((i : ℕ) → i < r → goesAgain (markAt ps q) i ≡ true) → spot ps (m + r * L) ≡ spotAt q 0 r
     begins zero a = let d : m + 0 * L ≡ m = omega arith in ap (spot ps) d ∙ e
     begins (suc r) a =
-        after ps (omega arith) (along (m + r * L) r (begins r (λ i h. a i (omega arith))) (L - 1) (omega arith))
+        after ps (omega arith) (along (m + r * L) (begins r (λ i h. a i (omega arith))) (L - 1) refl (omega arith) (omega arith))
         (rw (add-one r) at (next-back ps q (L - 1) r (omega arith) (a r (omega arith))))
 
     pub in-stretch : (r o : ℕ) → ((i : ℕ) → i < r → goesAgain (markAt ps q) i ≡ true) → o < stretch (markAt ps q) →
         spot ps (m + (r * stretch (markAt ps q) + o)) ≡ spotAt q o r
-    in-stretch r o a h = let d : m + (r * L + o) ≡ m + r * L + o = omega arith in ap (spot ps) d ∙ along (m + r * L) r (begins r a) o h
+    in-stretch r o a h = along (m + r * L) (begins r a) o (omega arith) (omega arith) h
 
     pub out-stretch : (k : ℕ) → ((i : ℕ) → i < k → goesAgain (markAt ps q) i ≡ true) → goesAgain (markAt ps q) k ≡ false →
         spot ps (m + suc k * stretch (markAt ps q)) ≡ spotAt (q + stretch (markAt ps q)) 0 0

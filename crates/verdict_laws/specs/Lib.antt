@@ -2,6 +2,7 @@ pub mod Tells
 pub mod Steps
 pub mod Lines
 pub mod Kept
+pub mod OneRound
 pub mod Power
 pub mod Until
 pub mod Search
