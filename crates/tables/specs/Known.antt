@@ -17,7 +17,7 @@ use Rattle.meaning.specs.Truth.{bit}
 use Rattle.meaning.specs.Judged.{startOf}
 use Rattle.verdict.specs.declared.Throughout.{Throughout}
 use Rattle.verdict.specs.Rounds.{firstOf, loopOf, roundsOf}
-use Rattle.verdict.specs.Forward.{drift, base}
+use Rattle.verdict.specs.Forward.{base}
 use Rattle.verdict.specs.Verdict.{isAlways, isNever}
 use Rattle.rounds.specs.Wrong.{isRight}
 use Rattle.tables.specs.declared.Firsts.{Firsts}
@@ -51,16 +51,13 @@ module _ {c : Case} (s : Sound c) {f : Firsts} (e : f ≡ firstsOf (itemsOf c .p
   rounds-are = ap roundsOf (mark-is s p room first-is)
 
   pub end-within : q + stretch (place .mark) ≤ roomOf kind.Place
-  end-within = end-in s p room first-is refl .1
+  end-within = end-in s p room first-is refl
 
 -- ---- the counters of a place that is held
 
 module _ {c : Case} (s : Sound c) {t : Tables} (e : t ≡ tablesOf (itemsOf c)) (p : ℕ) (h : p < length (itemsOf c .places)) where
   pub base-is : (d : Counters) → getD (t .bases .at) p d ≡ vecOf (λ j. base (itemsOf c) (startOf (itemsOf c)) j p)
   base-is d = values-at (length (itemsOf c .places)) (base (itemsOf c) (startOf (itemsOf c))) (ap (λ (t : Tables). t .bases) e) p d h
-
-  pub drift-is : (d : Counters) → getD (t .drifts .at) p d ≡ vecOf (λ j. drift (itemsOf c) j (firstOf (itemsOf c .places) p))
-  drift-is d = values-at (length (itemsOf c .places)) (λ j i. drift (itemsOf c) j (firstOf (itemsOf c .places) i)) (ap (λ (t : Tables). t .drifts) e) p d h
 
 -- ---- the mark of sentence i at place p, against what the sentence is by f
 

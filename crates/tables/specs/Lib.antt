@@ -2,7 +2,7 @@ pub mod Tables
 pub mod Reads
 pub mod Entries
 pub mod Moves
-pub mod WaySums
+pub mod Before
 pub mod Sizes
 pub mod Stretches
 pub mod Known

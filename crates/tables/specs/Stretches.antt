@@ -37,9 +37,5 @@ module _ {c : Case} (s : Sound c) (p : ℕ) (h : p < roomOf kind.Place) {q : ℕ
     pub end-is : q + n ≡ firstOf ps p + stretch (loopOf ps p)
     end-is = omega (arith, length-is)
 
-    pub end-in : (1 ≤ q + n) × (q + n ≤ roomOf kind.Place)
-    end-in =
-        let f = facts c s in (
-          omega (arith, length-is, f .laid .long (firstOf ps p)),
-          omega (arith, end-is, end-within f (firstOf ps p) (omega (arith, first-le ps p))),
-        )
+    pub end-in : q + n ≤ roomOf kind.Place
+    end-in = omega (arith, end-is, end-within (facts c s) (firstOf ps p) (omega (arith, first-le ps p)))

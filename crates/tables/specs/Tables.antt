@@ -1,8 +1,9 @@
 -- The tables of judging: entry p of each is the definition at place p, and 0 past the places that are held.
-use mathlib.Core.List.{List, _++_}
-use Prim.Native.Nat.{ℕ, _-_}
+use mathlib.Core.Path.{_≡_}
+use mathlib.Core.List.{List, [], _++_}
+use Prim.Native.Nat.{ℕ, _+_, _-_, _≤_, _<_}
 use lib.IntN.{ℤ, pos}
-use lib.ListN.{length, replicate}
+use lib.ListN.{length, getD, replicate}
 use Rattle.laws.specs.Tab.{tab}
 use Rattle.kinds.specs.declared.Kind.the-variants as kind
 use Rattle.counters.specs.declared.Counters.{Counters}
@@ -11,9 +12,11 @@ use Rattle.items.specs.declared.Ref.{Ref}
 use Rattle.items.specs.declared.Ref.the-variants as ref
 use Rattle.items.specs.declared.Place.{Place}
 use Rattle.items.specs.Lists.{Items, roomOf}
+use Rattle.meaning.specs.Run.{stretch}
+use Rattle.meaning.specs.Drift.{drift}
 use Rattle.meaning.specs.Judged.{startOf}
-use Rattle.verdict.specs.Rounds.{firstOf}
-use Rattle.verdict.specs.Forward.{ways, drift, base}
+use Rattle.verdict.specs.Rounds.{firstOf, loopOf}
+use Rattle.verdict.specs.Forward.{base}
 use Rattle.tables.specs.declared.Firsts.{Firsts}
 use Rattle.tables.specs.declared.Table.{Table}
 use Rattle.tables.specs.declared.Tables.{Tables}
@@ -43,13 +46,10 @@ valuesOf f p = vecOf (λ j. f j p)
 abbrev pub tableOf : ℕ → (ℕ → ℕ → ℤ) → Table
 tableOf n f = record { at = tab n 0 (valuesOf f) ++ replicate (roomOf kind.Place - n) noValues }
 
--- what the ways into the places up to each add
-abbrev pub waySumsOf : Items → Table
-waySumsOf x = tableOf (length (x .places)) (ways x)
-
--- what a round of each place's stretch adds
-abbrev pub driftsOf : Items → Table
-driftsOf x = tableOf (length (x .places)) (λ j p. drift x j (firstOf (x .places) p))
+-- the drift of each stretch whose last place is held, at its first place
+pub record Stored (x : Items) (t : Table) : Type 0 where
+  pub entry : (p : ℕ) → p < length (x .places) → firstOf (x .places) p + stretch (loopOf (x .places) p) ≤ p + 1 →
+      getD (t .at) (firstOf (x .places) p) (record { at = [] }) ≡ valuesOf (drift x) (firstOf (x .places) p)
 
 -- the counters of each place in its first round
 abbrev pub basesOf : Items → Table
@@ -57,4 +57,4 @@ basesOf x = tableOf (length (x .places)) (base x (startOf x))
 
 -- all of them
 abbrev pub tablesOf : Items → Tables
-tablesOf x = record { firsts = firstsOf (x .places); drifts = driftsOf x; bases = basesOf x }
+tablesOf x = record { firsts = firstsOf (x .places); bases = basesOf x }
