@@ -15,7 +15,7 @@ use Rattle.laws.specs.Tests.{cond-by}
 use Rattle.kinds.specs.declared.Kind.the-variants as kind
 use Rattle.kinds.specs.Kinds.{counters}
 use Rattle.counters.specs.declared.Counters.{Counters}
-use Rattle.counters.specs.Vectors.{valueAt, vec, vecOf}
+use Rattle.counters.specs.Vectors.{valueAt, vec, vecOf, noValues}
 use Rattle.counters.specs.Values.{has, values-same}
 use Rattle.items.specs.declared.Ref.{Ref}
 use Rattle.items.specs.declared.Ref.the-variants as ref
@@ -120,11 +120,11 @@ no-drift x j q e =
     ap (λ m. aroundBy x j q (stretch m - 1)) e ∙ ap (λ m. update (moveAt (x .moves) (backOf m)) j) e ∙ at-left (pos 0) counters j
 
 -- the drifts of nothing
-pub empty-drifts : driftsOf (itemsBy (λ k. [])) ≡ replicate (roomOf kind.Place) (vecOf (λ j. pos 0))
+pub empty-drifts : driftsOf (itemsBy (λ k. [])) ≡ replicate (roomOf kind.Place) noValues
 unfolding driftsOf
 empty-drifts =
     let x = itemsBy (λ k. []) in
-    tab-same (λ q. vecOf (λ j. cond (leb (endAt [] q) 0) (drift x j q) (pos 0))) (λ q. vecOf (λ j. pos 0)) (roomOf kind.Place) 0
+    tab-same (λ q. vecOf (λ j. cond (leb (endAt [] q) 0) (drift x j q) (pos 0))) (λ q. noValues) (roomOf kind.Place) 0
     (λ q h l. values-same (λ j. cond (leb (endAt [] q) 0) (drift x j q) (pos 0)) (λ j. pos 0)
     (λ j i. cond-by (λ z. z ≡ pos 0) (leb (endAt [] q) 0) (λ e. no-drift x j q refl) (λ e. refl)))
-    ∙ tab-one (vecOf (λ j. pos 0)) (roomOf kind.Place) 0
+    ∙ tab-one noValues (roomOf kind.Place) 0

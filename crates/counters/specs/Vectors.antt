@@ -27,6 +27,10 @@ vec f = tab counters 0 f
 abbrev pub vecOf : (ℕ → ℤ) → Counters
 vecOf f = record { at = vec f }
 
+-- 0 for each counter
+abbrev pub noValues : Counters
+noValues = vecOf (λ j. pos 0)
+
 -- the sum over one counter more
 pub sum-more : (l : List ℤ) (θ : ℕ → ℤ) (j : ℕ) → j < length l → sum (take (suc j) l) θ ≡ sum (take j l) θ +ℤ getD l j (pos 0) *ℤ θ j
 unfolding sum

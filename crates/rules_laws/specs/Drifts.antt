@@ -1,22 +1,22 @@
 -- What the drifts kept beside the items say, entry by entry, and what one place more does to them: nothing but for the loop that it closes, whose
 -- entry becomes what its moves add up to. Assumes nothing.
-use mathlib.Core.Path.{_≡_, refl, _∙_, sym, ap, ap₂}
+use mathlib.Core.Path.{_≡_, refl, _∙_, sym, ap}
 use mathlib.Core.Logic.{_⊎_, ⊎-elim}
 use mathlib.Core.List.{List, [], _∷_, _++_}
 use mathlib.Core.Bool.{Bool, true, false, cond, true≢false}
-use Prim.Native.Nat.{ℕ, suc, _+_, _-_, _≤_, _<_}
+use Prim.Native.Nat.{ℕ, _+_, _-_, _≤_, _<_}
 use native.Mathlib.Decide.{decLt}
 use native.Mathlib.Omega.{arith}
 use lib.Dec.{leb}
-use lib.IntN.{ℤ, pos}
-use lib.ListN.{length, getD, set, replicate, List·getD-append, List·getD-eq-default}
+use lib.IntN.{pos}
+use lib.ListN.{length, set, replicate, List·getD-append, List·getD-eq-default}
 use borrow.Author.Tests.{le-leb, lt-leb}
 use Rattle.laws.specs.Lists.{at-front}
 use Rattle.laws.specs.Tab.{tab-same, tab-one, tab-set}
 use Rattle.laws.specs.Tests.{cond-by}
 use Rattle.kinds.specs.declared.Kind.the-variants as kind
 use Rattle.counters.specs.declared.Counters.{Counters}
-use Rattle.counters.specs.Vectors.{vecOf}
+use Rattle.counters.specs.Vectors.{vecOf, noValues}
 use Rattle.counters.specs.Values.{values-same}
 use Rattle.items.specs.declared.Ref.{Ref}
 use Rattle.items.specs.declared.Ref.the-variants as ref
@@ -27,16 +27,12 @@ use Rattle.items.specs.declared.Place.{Place}
 use Rattle.items.specs.Lists.{Items, itemsBy, roomOf, noItem}
 use Rattle.rules.specs.Rules.{markAt, lengthOf, endAt}
 use Rattle.meaning.specs.Run.{Way, stretch, backOf, placeAt, moveNo, moveAt, moveBy, update}
-use Rattle.meaning.specs.Drift.{inBy, backBy, aroundBy, drift}
+use Rattle.meaning.specs.Drift.{aroundBy, drift}
 use Rattle.standing.specs.Standing.{noLoops, loopsFrom, isLoopEnd}
 use Rattle.collector.specs.Cases.{filled, driftsOf, roundFrom}
 use Rattle.collector.specs.Sound.{LoopsApart}
 use Rattle.collector.proofs.Moves.{around-same, no-drift}
 use Rattle.rules_laws.specs.Loops.{marked?, ends, ends-only, old-mark, new-mark, long, where?}
-
--- 0 for each counter
-abbrev noValues : Counters
-noValues = vecOf (λ j. pos 0)
 
 -- ---- entry by entry
 
@@ -65,7 +61,7 @@ no-places x e =
 
 -- ---- the arrays of a case add what its items do
 
-move-filled : (ts : List Move) (n : ℕ) (r : Ref) → moveAt (ts ++ replicate n (noItem kind.Move)) r ≡ moveAt ts r
+pub move-filled : (ts : List Move) (n : ℕ) (r : Ref) → moveAt (ts ++ replicate n (noItem kind.Move)) r ≡ moveAt ts r
 unfolding moveAt
 move-filled ts n ref.None = refl
 move-filled ts n (ref.At t) = at-front (noItem kind.Move) ts n t

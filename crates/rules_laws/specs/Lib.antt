@@ -10,3 +10,4 @@ pub mod First
 pub mod Kept
 pub mod Spelled
 pub mod Theorems
+pub mod KeptDrifts

@@ -162,6 +162,32 @@ module _ (x : Items) (a : LoopsApart (x .places)) where
     λ o. tells-open ps a (o .first) (o .begun) (o .more),
   )
 
+-- the endless loop begins at a place that is held
+begun : (x : Items) (c : Closed x) → c .first < length (x .places)
+begun x c =
+    elim (decLt (c .first) (length (x .places))) [
+      | yes h ↦ h
+      | no h ↦
+          absurd
+          (clash (c .endless) (ap (λ (p : Place). isEndless (p .mark)) (List·getD-eq-default (x .places) (noItem kind.Place) {n = c .first} (omega arith))))
+    ]
+
+-- once the endless loop has closed, every loop has
+pub all-closed : (x : Items) → LoopsApart (x .places) → Closed x → (q : ℕ) → q < length (x .places) → endAt (x .places) q ≤ length (x .places)
+all-closed x a c q h =
+    ⊎-elim
+    (λ e. omega (arith, ap lengthOf e))
+    (λ m. elim (decLt q (c .first)) [
+      | yes l ↦ omega (arith, a .apart q (c .first) l (begun x c) (λ e. clash (c .endless) (ap isEndless e)), begun x c)
+      | no l ↦ elim (decLt (c .first) q) [
+        | yes g ↦ absurd (omega (arith, a .apart (c .first) q g h m, a .last (c .first) (c .endless)))
+        | no g ↦
+            let e : c .first ≡ q = omega arith in
+            omega (arith, c .whole, ap (endAt (x .places)) e)
+      ]
+    ])
+    (marked? (markAt (x .places) q))
+
 -- place n, the last that is held, is the last of a loop: the last one, and no other
 module _ (ps : List Place) (n : ℕ) (long : length ps ≡ n + 1) where
   ends-by : (l : Loops) → Last noLoops 0 ps l → isLoopEnd l n ≡ true →

@@ -5,17 +5,17 @@ use native.Mathlib.Numerals.{add-one}
 use native.Mathlib.Omega.{arith}
 use lib.IntN.{ℤ, pos, _+ℤ_, _*ℤ_, +ℤ-idr}
 use borrow.Author.Tests.{le-leb, lt-leb}
+use Rattle.laws.specs.Lists.{at-left}
 use Rattle.kinds.specs.Kinds.{counters}
 use Rattle.counters.specs.Sum.{Valuation}
+use Rattle.counters.specs.Vectors.{vecOf}
+use Rattle.counters.specs.Values.{values-same}
 use Rattle.items.specs.Lists.{Items}
 use Rattle.meaning.specs.Run.{stretch, moveAt, update}
 use Rattle.meaning.specs.Drift.{inBy, drift}
 use Rattle.meaning_laws.specs.Facts.{Facts}
 use Rattle.verdict.specs.Rounds.{firstOf, loopOf}
 use Rattle.verdict.specs.Forward.{repeats, roundsAdd, base}
-use Rattle.tables.specs.Tables.{vecOf}
-use Rattle.tables.specs.Reads.{at-left}
-use Rattle.tables.specs.Entries.{values-same}
 
 -- counter j before the way into place p: at the start, or at the place before it after all of its rounds
 unfoldable pub before : Items → Valuation → ℕ → ℕ → ℤ

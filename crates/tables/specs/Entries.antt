@@ -1,35 +1,27 @@
--- The entries of the tables of judging: how they are read, how a loop fills them, and sums of them. Assumes nothing.
+-- The entries of the tables of judging: how they are read, and how a loop fills them. Assumes nothing.
 use mathlib.Core.Path.{_≡_, sym, _∙_, ap, ap₂}
 use mathlib.Core.List.{List, [], _∷_, _++_}
-use Prim.Native.Nat.{ℕ, zero, suc, _+_, _-_, _*_, _<_, _^_}
+use Prim.Native.Nat.{ℕ, zero, suc, _+_, _-_, _<_}
 use native.Mathlib.Numerals.{add-one}
 use native.Mathlib.Omega.{arith}
-use lib.IntN.{ℤ, _+ℤ_, _*ℤ_}
+use lib.IntN.{ℤ}
 use lib.ListN.{length, getD, set, replicate, List·getD-append}
 use lib.Seq.{set-at, append-snoc}
-use Rattle.laws.specs.Sizes.{size}
-use Rattle.laws.specs.Tab.{tab, length-tab, at-tab}
+use Rattle.laws.specs.Tab.{tab, length-tab, entry}
 use Rattle.kinds.specs.declared.Kind.the-variants as kind
-use Rattle.kinds.specs.Kinds.{counters}
 use Rattle.counters.specs.declared.Counters.{Counters}
-use Rattle.counters.specs.Vectors.{valueAt, vec, vec-same, at-is}
+use Rattle.counters.specs.Vectors.{noValues}
 use Rattle.items.specs.declared.Place.{Place}
 use Rattle.items.specs.Lists.{roomOf}
 use Rattle.verdict.specs.Rounds.{firstOf}
 use Rattle.tables.specs.declared.Firsts.{Firsts}
 use Rattle.tables.specs.declared.Table.{Table}
-use Rattle.tables.specs.Tables.{vecOf, noValues, firstsOf, valuesOf, tableOf}
+use Rattle.tables.specs.Tables.{firstsOf, valuesOf, tableOf}
 
 module _ {A : Type 0} (g : ℕ → A) (n : ℕ) where
-  -- entry k
-  pub entry : (k : ℕ) (d : A) → k < n → getD (tab n 0 g) k d ≡ g k
-  entry k d h =
-      let e : 0 + k ≡ k = omega arith in
-      at-tab g n 0 k d h ∙ ap g e
-
-  -- the same, whatever stands past the n entries
+  -- entry k, whatever stands past the n entries
   front : (l : List A) (k : ℕ) (d : A) → k < n → getD (tab n 0 g ++ l) k d ≡ g k
-  front l k d h = List·getD-append (tab n 0 g) l d k (omega (arith, length-tab g n 0)) ∙ entry k d h
+  front l k d h = List·getD-append (tab n 0 g) l d k (omega (arith, length-tab g n 0)) ∙ entry g n k d h
 
   -- one entry more at the end
   tab-last : (k i : ℕ) {j : ℕ} → j ≡ i + k → tab k i g ++ (g j ∷ []) ≡ tab (suc k) i g
@@ -70,25 +62,3 @@ module _ {f : ℕ → ℕ → ℤ} {xs : List Counters} {p : ℕ} (b : Begun f x
 
   pub finish : {n : ℕ} → p ≡ n → _≡_ {A = Table} (record { at = xs }) (tableOf n f)
   finish e = ap (λ (l : List Counters). record { at = l }) (b .so) ∙ ap (λ n. tableOf n f) e
-
--- ---- a value for each counter
-
--- v has the values f j
-pub record HasValues (v : Counters) (f : ℕ → ℤ) : Type 0 where
-  pub each : (j : ℕ) → j < counters → valueAt v j ≡ f j
-
-pub has : {v : Counters} (f : ℕ → ℤ) → v ≡ vecOf f → HasValues v f
-has {v} f e = record { each = at-is v f (ap (λ (u : Counters). u .at) e) }
-
-pub values-same : (f g : ℕ → ℤ) → ((j : ℕ) → j < counters → f j ≡ g j) → vecOf f ≡ vecOf g
-values-same f g h = ap (λ (l : List ℤ). record { at = l }) (vec-same f g h)
-
--- n times b more, where m is n, and a has the values f j and b the values g j
-module _ (n : ℤ) {m : ℤ} (e : m ≡ n) {a b : Counters} {f g : ℕ → ℤ} (p : HasValues a f) (q : HasValues b g) where
-  pub sums-small : ((j : ℕ) → size (f j) + size n * size (g j) < 2 ^ 63) → (j : ℕ) → j < counters → size (valueAt a j) + size m * size (valueAt b j) < 2 ^ 63
-  sums-small s j h = rw (e, p .each j h, q .each j h) (s j)
-
-  pub sums-are : {r : Counters} {s : ℕ → ℤ} → r .at ≡ vec (λ j. valueAt a j +ℤ m *ℤ valueAt b j) → ((j : ℕ) → f j +ℤ n *ℤ g j ≡ s j) → r ≡ vecOf s
-  sums-are {s = s} i l =
-      ap (λ (k : List ℤ). record { at = k }) i
-      ∙ values-same (λ j. valueAt a j +ℤ m *ℤ valueAt b j) s (λ j h. rw (e, p .each j h, q .each j h) (l j))

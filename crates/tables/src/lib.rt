@@ -1,12 +1,12 @@
 // What judging knows of each place of a plan: the first place of its stretch, and the counters in its first round.
 ghost use mathlib.Core.Path.{_≡_};
+ghost use Rattle.counters.specs.Vectors.{vecOf};
 ghost use Rattle.collector.specs.Cases.{itemsOf};
 ghost use Rattle.collector.specs.Sound.{Sound};
 ghost use Rattle.meaning.specs.Judged.{startOf};
-ghost use Rattle.tables.specs.Tables.{vecOf, slotOf, firstsOf, Stored, basesOf, tablesOf};
+ghost use Rattle.tables.specs.Tables.{firstsOf, basesOf, tablesOf};
 use collector::Case;
 use counters::Counters;
-use items::Ref;
 
 // The first place of the stretch of each place that is held.
 pub struct Firsts {
@@ -22,16 +22,6 @@ pub struct Table {
 pub struct Tables {
     pub firsts: Firsts,
     pub bases: Table,
-}
-
-// The number of the move that a reference names, and the number of moves that there is room for where it names none.
-fn slot(r: Ref) -> usize
-    ensures { λ t. ⌜ t ≡ slotOf r ⌝ }
-{
-    match r {
-        Ref::None => Case::MOVES,
-        Ref::At(t) => t as usize,
-    }
 }
 
 impl Firsts {
@@ -65,23 +55,23 @@ fn start(c: Case) -> Counters
 }
 
 // The counters of each place that is held in its first round: each way adds its updates, and at the end of a loop each further round adds the drift.
-fn bases(c: Case, f: Firsts, drifts: Table) -> Table
-    requires { ⌜ Sound c × (f ≡ firstsOf (itemsOf c .places)) × Stored (itemsOf c) drifts ⌝ }
+fn bases(c: Case, f: Firsts) -> Table
+    requires { ⌜ Sound c × (f ≡ firstsOf (itemsOf c .places)) ⌝ }
     ensures { λ r. ⌜ r ≡ basesOf (itemsOf c) ⌝ }
 {
     let moves = c.moves;
     let places = c.places;
+    let drifts = c.drifts;
     let mut at = [counters::zero(); Case::PLACES];
     let mut v = start(c);
     let mut p: usize = 0;
     while p < c.count.places {
         let place = places[p];
-        let r = place.way;
-        let t = slot(r);
+        let way = place.way;
+        let t = collector::slot(way);
         if t < Case::MOVES {
             let m = moves[t];
-            let u = m.updates;
-            v = counters::more(v, 1, counters::widened(u));
+            v = counters::plus(v, m.updates);
         }
         at[p] = v;
         let q = f.at[p] as usize;
@@ -89,7 +79,7 @@ fn bases(c: Case, f: Firsts, drifts: Table) -> Table
         let mark = first.mark;
         p = p + 1;
         if q + rounds::stretch(mark) <= p {
-            let d = drifts.at[q];
+            let d = drifts[q];
             let k = rounds::repeats(mark);
             v = counters::more(v, k as i64, d);
         }
@@ -99,12 +89,12 @@ fn bases(c: Case, f: Firsts, drifts: Table) -> Table
 
 impl Tables {
     // Those of a case.
-    pub fn of(c: Case, drifts: Table) -> Tables
-        requires { ⌜ Sound c × Stored (itemsOf c) drifts ⌝ }
+    pub fn of(c: Case) -> Tables
+        requires { ⌜ Sound c ⌝ }
         ensures { λ r. ⌜ r ≡ tablesOf (itemsOf c) ⌝ }
     {
         let f = Firsts::of(c);
-        let b = bases(c, f, drifts);
+        let b = bases(c, f);
         Tables {
             firsts: f,
             bases: b,

@@ -11,10 +11,12 @@ use mir.Syntax.{w64}
 use mir.Val.{toZ}
 use mir.Facts.{toZ-pos}
 use Rattle.kinds.specs.declared.Kind.the-variants as kind
+use Rattle.counters.specs.Vectors.{vecOf}
+use Rattle.counters.specs.Values.{HasValues, has, values-same, sums-small, sums-are}
 use Rattle.items.specs.declared.Ref.{Ref}
 use Rattle.items.specs.declared.Place.{Place}
 use Rattle.items.specs.Lists.{Items, roomOf}
-use Rattle.collector.specs.Cases.{itemsOf}
+use Rattle.collector.specs.Cases.{itemsOf, slotOf}
 use Rattle.rules_laws.specs.Held.{counted}
 use Rattle.meaning.specs.Run.{stretch, placeAt}
 use Rattle.meaning.specs.Drift.{drift}
@@ -23,10 +25,10 @@ use Rattle.meaning_laws.specs.Facts.{Facts}
 use Rattle.meaning_laws.specs.Given.{facts}
 use Rattle.verdict.specs.Rounds.{firstOf, loopOf}
 use Rattle.verdict.specs.Forward.{repeats, base}
-use Rattle.tables.specs.Tables.{vecOf, slotOf}
+use Rattle.tables.specs.Known.{drift-at-end}
 use Rattle.tables.specs.Reads.{at-places}
-use Rattle.tables.specs.Entries.{first-at, HasValues, has, values-same, sums-small, sums-are, Begun, begin, go-on, finish}
-use Rattle.tables.specs.Moves.{more, more-small, no-more}
+use Rattle.tables.specs.Entries.{first-at, Begun, begin, go-on, finish}
+use Rattle.tables.specs.Moves.{more, no-more}
 use Rattle.tables.specs.Before.{before, with-way, rounds-done, rounds-kept}
 use Rattle.tables.specs.Sizes.{start-small, times-size, base-size, before-size}
 use Rattle.tables.specs.Stretches.{first-below, mark-is, end-is, end-in}
@@ -34,18 +36,18 @@ use Rattle.tables.proofs.bases.Statement.{statement}
 use Rattle.tables.proofs.bases.Tie as tie
 
 abbrev Inv-loop : tie.InvT-loop
-Inv-loop c f drifts moves places at₀ v₀ p₀ at v p =
+Inv-loop c f moves places drifts at₀ v₀ p₀ at v p =
     (p ≤ c .count .places) × (v ≡ vecOf (λ j. before (itemsOf c) (startOf (itemsOf c)) j p)) × Begun (base (itemsOf c) (startOf (itemsOf c))) at p
 
 abbrev μ-loop : tie.MeasureT-loop
-μ-loop c f drifts moves places at₀ v₀ p₀ at v p = c .count .places - p
+μ-loop c f moves places drifts at₀ v₀ p₀ at v p = c .count .places - p
 
 module _ (i : tie.Then1 Inv-loop μ-loop) where
   abbrev l : tie.At-loop Inv-loop μ-loop
   l = i .before .before
 
   abbrev t : tie.Start Inv-loop μ-loop
-  t = l .before .before .before .before .before
+  t = l .before .before .before .before .before .before
 
   -- the items, the counters at the start, and the place that is filled
   abbrev x : Items
@@ -99,7 +101,7 @@ module _ (c : tie.Joined2 Inv-loop μ-loop) where
       let s = t a .pre .0 in
       let e = l a .loop .inv .1 in
       ⊎-elim
-      (λ w. w .5 ∙ more s (into a) (slot-is (c .before)) (ahead a) e _ (w .0 .taken) (w .3 .ensures) (w .4 .ensures))
+      (λ w. w .3 ∙ more s (into a) (slot-is (c .before)) (ahead a) e _ (w .0 .taken) (w .2 .ensures .0))
       (λ w. w .1 ∙ no-more s (into a) (slot-is (c .before)) (ahead a) e (w .0 .left))
       (c .if2 .came)
       ∙ with-way (known a) (θ a) (p a)
@@ -140,9 +142,8 @@ module _ (c : tie.After-repeats Inv-loop μ-loop) where
   base-has : HasValues (b s .if2 .v) (λ j. base (x e) (θ e) j (p e))
   base-has = has _ (filled (b s))
 
-  drift-has : HasValues (getD (t e .args .t3 .at) (read e) (record { at = [] })) (λ j. drift (x e) j (q e))
-  drift-has =
-      has _ (ap (λ k. getD (t e .args .t3 .at) k (record { at = [] })) (read-is e) ∙ t e .pre .2 .entry (p e) (held e) done)
+  drift-has : HasValues (getD (t e .args .c .drifts) (read e) (record { at = [] })) (λ j. drift (x e) j (q e))
+  drift-has = has _ (drift-at-end (t e .pre .0) (t e .pre .1) (p e) (held e) _ done)
 
 zero-requires : tie.Need-zero-requires Inv-loop μ-loop
 zero-requires c κs = search needs
@@ -169,16 +170,11 @@ mul-m c = search needs
 array-copy-out-m : tie.Need-array-copy-out-m Inv-loop μ-loop
 array-copy-out-m c = search needs
 
-widened-requires : tie.Need-widened-requires Inv-loop μ-loop
-widened-requires c κs = search needs
-
-more-requires : tie.Need-more-requires Inv-loop μ-loop
-more-requires c κs =
-    let b = c .before .before .before .before in
-    let i = b .before .before in
+plus-requires : tie.Need-plus-requires Inv-loop μ-loop
+plus-requires c κs j k =
+    let i = c .before .before .before .before in
     let h = below i in
-    more-small (t i .pre .0) (into i) (slot-is b) (ahead i) (l i .loop .inv .1) _ (c .before .before .before .if2 .taken) (c .widened .ensures)
-    (λ j. omega (arith, before-size (known i) j (θ i) (start-small (known i) j) (p i) (omega arith)))
+    rw (has (ahead i) (l i .loop .inv .1) .each j k) (omega (arith, before-size (known i) j (θ i) (start-small (known i) j) (p i) (omega arith)))
 
 mul-at : tie.Need-mul-at Inv-loop μ-loop
 mul-at c = record { fits = omega (arith, below (a c)) }
@@ -212,8 +208,8 @@ add-if3 c =
 mul-d : tie.Need-mul-d Inv-loop μ-loop
 mul-d c = record { fits = omega (arith, read-below (n (c .before))) }
 
-element-copy-out-d : tie.Need-element-copy-out-d Inv-loop μ-loop
-element-copy-out-d c = read-below (n (c .before))
+array-copy-out-d : tie.Need-array-copy-out-d Inv-loop μ-loop
+array-copy-out-d c = read-below (n (c .before))
 
 repeats-requires : tie.Need-repeats-requires Inv-loop μ-loop
 repeats-requires c κs = search needs
@@ -221,8 +217,8 @@ repeats-requires c κs = search needs
 cast-more : tie.Need-cast-more Inv-loop μ-loop
 cast-more c = search needs
 
-more-requires-2 : tie.Need-more-requires-2 Inv-loop μ-loop
-more-requires-2 c κs =
+more-requires : tie.Need-more-requires Inv-loop μ-loop
+more-requires c κs =
     let i = e c in
     let h = below i in
     sums-small (pos (times c)) (times-are c) (base-has c) (drift-has c)
@@ -236,7 +232,7 @@ loop-again c =
     let r = c .before in
     let i = e r in (
       omega arith,
-      sums-are _ (times-are r) (base-has r) (drift-has r) (c .more2 .ensures) (λ j. rounds-done (x i) (θ i) j (p i) (done r)),
+      sums-are _ (times-are r) (base-has r) (drift-has r) (c .more .ensures) (λ j. rounds-done (x i) (θ i) j (p i) (done r)),
       next (s r),
     )
 
@@ -255,7 +251,7 @@ loop-again-2 c =
 returns : tie.Need-returns Inv-loop μ-loop
 returns c =
     let m = c .before .before in
-    let s = m .before .before .before .before .before in
+    let s = m .before .before .before .before .before .before in
     let e : m .loop .p ≡ s .args .c .count .places = omega arith in
     finish (m .loop .inv .2) (e ∙ sym (counted (s .args .c) (s .pre .0) kind.Place))
 
@@ -273,8 +269,7 @@ bases-spec =
     slot-requires
     mul-m
     array-copy-out-m
-    widened-requires
-    more-requires
+    plus-requires
     mul-at
     array-set-from-at
     element-copy-out-q
@@ -285,10 +280,10 @@ bases-spec =
     stretch-requires
     add-if3
     mul-d
-    element-copy-out-d
+    array-copy-out-d
     repeats-requires
     cast-more
-    more-requires-2
+    more-requires
     loop-less
     loop-again
     loop-less-2

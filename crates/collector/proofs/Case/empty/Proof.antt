@@ -1,8 +1,8 @@
 -- The empty case. Assumes nothing.
 use mathlib.Core.Path.{_≡_, ap}
 use mathlib.Core.List.{List}
-use lib.IntN.{ℤ, pos}
-use Rattle.counters.specs.Vectors.{vecOf}
+use lib.IntN.{ℤ}
+use Rattle.counters.specs.Vectors.{noValues}
 use Rattle.items.specs.Items.{perCounter, moveOf}
 use Rattle.standing.specs.Standing.{loopsFrom}
 use Rattle.collector.specs.Cases.{emptyCase}
@@ -29,7 +29,7 @@ no-place-requires c κs = search needs
 returns : tie.Need-returns
 unfolding emptyCase loopsFrom moveOf perCounter
 returns c =
-    let z : c .before .before .before .zero .result ≡ vecOf (λ j. pos 0) = ap (λ (l : List ℤ). record { at = l }) (c .before .before .before .zero .ensures) in
+    let z : c .before .before .before .zero .result ≡ noValues = ap (λ (l : List ℤ). record { at = l }) (c .before .before .before .zero .ensures) in
     rw empty-drifts
     (simp (c .before .before .before .before .none .ensures, z, c .before .before .no-guard .ensures, c .before .move-of .ensures, c .no-place .ensures))
 

@@ -3,18 +3,17 @@ use borrow.Author.Needs.{needs}
 use mathlib.Core.Path.{_≡_, refl, sym, _∙_, ap, subst}
 use mathlib.Core.Logic.{⊎-elim}
 use mathlib.Core.List.{List, [], map}
-use Prim.Native.Nat.{ℕ, suc, _+_, _-_, _≤_, _<_}
+use Prim.Native.Nat.{ℕ, _+_, _-_, _≤_, _<_}
 use native.Mathlib.Omega.{arith}
-use lib.IntN.{ℤ, pos, _+ℤ_, +ℤ-idl}
+use lib.IntN.{ℤ, pos, _+ℤ_}
 use lib.ListN.{length, length-map}
-use Rattle.laws.specs.Lists.{within}
 use Rattle.kinds.specs.declared.Kind.the-variants as kind
 use Rattle.counters.specs.Values.{values-same}
 use Rattle.items.specs.declared.Move.{Move}
 use Rattle.items.specs.declared.Place.{Place}
-use Rattle.items.specs.Lists.{Items, roomOf, noItem}
+use Rattle.items.specs.Lists.{Items, roomOf}
 use Rattle.meaning.specs.Run.{placeAt, backOf, moveAt, update}
-use Rattle.meaning.specs.Drift.{inBy, backBy, aroundBy}
+use Rattle.meaning.specs.Drift.{aroundBy}
 use Rattle.collector.specs.Cases.{slotOf, arraysOf}
 use Rattle.collector.proofs.Moves.{Sums, sums-fit, sums-kept, sums-more, around-same, round-begun, round-on}
 use Rattle.collector.proofs.Case.round_from.Statement.{statement}
