@@ -2,6 +2,10 @@
 const WIDTH: usize = 7;
 const FIELDS: usize = 8;
 pub const LENGTH: usize = 58;
+pub const COUNTERS: usize = 4;
+pub const PLACES: usize = 64;
+
+pub type Counters = [i64; COUNTERS];
 
 #[derive(Clone, Copy, PartialEq)]
 enum Field {
@@ -56,7 +60,7 @@ pub struct State {
 
 #[derive(Clone, Copy)]
 pub struct Guard {
-    pub coefficients: [i16; 4],
+    pub coefficients: [i16; COUNTERS],
     pub bound: i32,
 }
 
@@ -64,7 +68,7 @@ pub struct Guard {
 pub struct Move {
     pub from: u8,
     pub to: u8,
-    pub updates: [i16; 4],
+    pub updates: [i16; COUNTERS],
     pub guard1: Option<u8>,
     pub guard2: Option<u8>,
 }
@@ -97,16 +101,44 @@ pub struct Place {
 
 pub struct Case {
     pub count: [usize; 5],
+    // the last loop: its first place, the place behind its last, and whether it is endless
+    pub first: usize,
     pub end: usize,
     pub endless: bool,
+    // what a round of each loop adds to the counters, by the loop's first place; 0 until the loop closes
+    pub drifts: [Counters; PLACES],
     pub states: [State; 32],
     pub guards: [Guard; 32],
     pub moves: [Move; 64],
     pub sentences: [Form; 20],
-    pub places: [Place; 64],
+    pub places: [Place; PLACES],
 }
 
-const ROOM: [usize; 5] = [32, 32, 64, 20, 64];
+const ROOM: [usize; 5] = [32, 32, 64, 20, PLACES];
+
+impl Move {
+    pub fn add_to(&self, counters: &mut Counters) {
+        for (counter, &update) in counters.iter_mut().zip(&self.updates) {
+            *counter += update as i64;
+        }
+    }
+}
+
+impl LoopMark {
+    pub fn length(self) -> usize {
+        match self {
+            LoopMark::None => 1,
+            LoopMark::Counted { length, .. } | LoopMark::Endless { length, .. } => length as usize,
+        }
+    }
+
+    pub fn back(self) -> Option<u8> {
+        match self {
+            LoopMark::None => None,
+            LoopMark::Counted { back, .. } | LoopMark::Endless { back, .. } => Some(back),
+        }
+    }
+}
 
 fn read_field(part: &[u8]) -> Field {
     let bad = |i: usize| Field::Bad(i as u8);
@@ -170,7 +202,7 @@ fn short(f: Field) -> i16 {
     integer(f) as i16
 }
 
-fn four(x: &[Field]) -> [i16; 4] {
+fn four(x: &[Field]) -> [i16; COUNTERS] {
     [short(x[0]), short(x[1]), short(x[2]), short(x[3])]
 }
 
@@ -263,13 +295,15 @@ impl Case {
     pub fn empty() -> Case {
         Case {
             count: [0; 5],
+            first: 0,
             end: 0,
             endless: false,
+            drifts: [[0; COUNTERS]; PLACES],
             states: [State { propositions: 0 }; 32],
-            guards: [Guard { coefficients: [0; 4], bound: 0 }; 32],
-            moves: [Move { from: 0, to: 0, updates: [0; 4], guard1: None, guard2: None }; 64],
+            guards: [Guard { coefficients: [0; COUNTERS], bound: 0 }; 32],
+            moves: [Move { from: 0, to: 0, updates: [0; COUNTERS], guard1: None, guard2: None }; 64],
             sentences: [Form::True; 20],
-            places: [Place { state: 0, way: None, marks: 0, mark: LoopMark::None }; 64],
+            places: [Place { state: 0, way: None, marks: 0, mark: LoopMark::None }; PLACES],
         }
     }
 
@@ -336,7 +370,7 @@ impl Case {
         if self.endless && self.end <= n {
             return Answer::Refused(25, 0);
         }
-        if filled(x[3]) && (n < self.end || 64 < n + natural(x[3]) as usize) {
+        if filled(x[3]) && (n < self.end || PLACES < n + natural(x[3]) as usize) {
             return Answer::Refused(25, 4);
         }
         if filled(x[1]) == (n == 0) {
@@ -358,13 +392,31 @@ impl Case {
             Kind::Place => {
                 let mark = loop_mark(x);
                 if !matches!(mark, LoopMark::None) {
-                    self.end = n + natural(x[3]) as usize;
+                    self.first = n;
+                    self.end = n + mark.length();
                     self.endless = matches!(mark, LoopMark::Endless { .. });
                 }
                 self.places[n] = Place { state: byte(x[0]), way: reference(x[1]), marks: natural(x[2]), mark };
+                if n + 1 == self.end {
+                    self.drifts[self.first] = self.round_sums();
+                }
             }
         }
         self.count[kind as usize] = n + 1;
+    }
+
+    // What a round of the last loop adds to the counters: by the ways into its places but the first, and by the back move.
+    fn round_sums(&self) -> Counters {
+        let mut sums = [0; COUNTERS];
+        for place in &self.places[self.first + 1..self.end] {
+            if let Some(way) = place.way {
+                self.moves[way as usize].add_to(&mut sums);
+            }
+        }
+        if let Some(back) = self.places[self.first].mark.back() {
+            self.moves[back as usize].add_to(&mut sums);
+        }
+        sums
     }
 
     // Takes the records of a file, up to the first that is refused.

@@ -1,11 +1,6 @@
 // Plain Rust that judges a case, by the same computation as the proved judge's: one pass forward over the places for the counters, and one
 // backward for each until. Its cost doesn't depend on the number of rounds.
-use crate::plain::{Answer, Case, Form, LoopMark};
-
-const COUNTERS: usize = 4;
-const PLACES: usize = 64;
-
-type Counters = [i64; COUNTERS];
+use crate::plain::{Answer, Case, Counters, Form, LoopMark, COUNTERS, PLACES};
 
 // Whether something is true in every round of a place, in none, or in some only.
 #[derive(Clone, Copy, PartialEq)]
@@ -36,11 +31,10 @@ struct Step {
     go: i64,
 }
 
-// The run of a plan: by place, the first place of its loop or itself, and the counters in its first round; what a round adds, by first place.
+// The run of a plan: by place, the first place of its loop or itself, and the counters in its first round.
 pub struct Run {
     first: [u8; PLACES],
     base: [Counters; PLACES],
-    drift: [Counters; PLACES],
 }
 
 fn flag(x: bool) -> Throughout {
@@ -71,25 +65,11 @@ impl Rounds {
 }
 
 impl LoopMark {
-    fn length(self) -> usize {
-        match self {
-            LoopMark::None => 1,
-            LoopMark::Counted { length, .. } | LoopMark::Endless { length, .. } => length as usize,
-        }
-    }
-
     fn rounds(self) -> Rounds {
         match self {
             LoopMark::None => Rounds::UpTo(0),
             LoopMark::Counted { rounds, .. } => Rounds::UpTo(rounds - 1),
             LoopMark::Endless { .. } => Rounds::Ever,
-        }
-    }
-
-    fn back(self) -> Option<u8> {
-        match self {
-            LoopMark::None => None,
-            LoopMark::Counted { back, .. } | LoopMark::Endless { back, .. } => Some(back),
         }
     }
 }
@@ -112,7 +92,7 @@ fn power(n: u32, within: i64, sum: i64, v: i64) -> i64 {
 
 impl Run {
     pub fn of(case: &Case) -> Run {
-        let mut run = Run { first: [0; PLACES], base: [[0; COUNTERS]; PLACES], drift: [[0; COUNTERS]; PLACES] };
+        let mut run = Run { first: [0; PLACES], base: [[0; COUNTERS]; PLACES] };
         let mut counters = [0; COUNTERS];
         let mut first = 0;
         while first < case.places() {
@@ -120,21 +100,14 @@ impl Run {
             let end = first + mark.length();
             for p in first..end {
                 if let Some(way) = case.places[p].way {
-                    for j in 0..COUNTERS {
-                        counters[j] += case.moves[way as usize].updates[j] as i64;
-                    }
+                    case.moves[way as usize].add_to(&mut counters);
                 }
                 run.first[p] = first as u8;
                 run.base[p] = counters;
             }
-            if let Some(back) = mark.back() {
+            if let LoopMark::Counted { rounds, .. } = mark {
                 for j in 0..COUNTERS {
-                    run.drift[first][j] = counters[j] - run.base[first][j] + case.moves[back as usize].updates[j] as i64;
-                }
-            }
-            if let Rounds::UpTo(again) = mark.rounds() {
-                for j in 0..COUNTERS {
-                    counters[j] += again as i64 * run.drift[first][j];
+                    counters[j] += (rounds as i64 - 1) * case.drifts[first][j];
                 }
             }
             first = end;
@@ -232,7 +205,7 @@ impl Case {
         for p in 0..self.places() {
             let place = &self.places[p];
             let first = run.first[p] as usize;
-            let (base, drift, rounds) = (&run.base[p], &run.drift[first], self.places[first].mark.rounds());
+            let (base, drift, rounds) = (&run.base[p], &self.drifts[first], self.places[first].mark.rounds());
             if let Some(way) = place.way {
                 // into the first place once, else in every round
                 let rounds = if p == first { Rounds::UpTo(0) } else { rounds };
@@ -270,7 +243,7 @@ impl Case {
             Form::Proposition(k) => self.at_places(|p| flag(self.states[self.places[p].state as usize].propositions >> k & 1 == 1)),
             Form::Guard(guard) => self.at_places(|p| {
                 let first = run.first[p] as usize;
-                self.guard_through(guard, &run.base[p], &run.drift[first], self.places[first].mark.rounds())
+                self.guard_through(guard, &run.base[p], &self.drifts[first], self.places[first].mark.rounds())
             }),
             Form::And(a, b) => self.at_places(|p| flag(self.marked(a, p) && self.marked(b, p))),
             Form::Not(a) => self.at_places(|p| flag(!self.marked(a, p))),
