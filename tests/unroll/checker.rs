@@ -35,6 +35,18 @@ impl Case {
             *counter += update.expect("a filled field");
         }
     }
+
+    /// What moves add, taken one after the other.
+    pub fn added_by(&self, moves: Vec<usize>) -> [i64; 4] {
+        let mut sums = [0; 4];
+        moves.into_iter().for_each(|number| self.add_updates(&mut sums, number));
+        sums
+    }
+
+    /// The moves of a loop's second round: the back move, and the ways into its other places.
+    pub fn second_round(&self, first: usize) -> Vec<usize> {
+        (first..first + self.number(P, first, 4)).filter_map(|place| self.entry(place, 2)).map(|(_, number)| number).collect()
+    }
 }
 
 /// The sum of coefficient times counter.
@@ -135,7 +147,8 @@ impl Run {
                 run.spend(length as u64)?;
                 for place in first..first + length {
                     run.enter(case, &mut counters, place, round);
-                    run.moments.push(Step { place, round, rounds, length, last: place + 1 == first + length, counters });
+                    let shown = run.shown(place - first, counters);
+                    run.moments.push(Step { place, round, rounds, length, last: place + 1 == first + length, counters: shown });
                 }
             }
             if run.mistake == ExtraDrift && fields[4].is_some() {
@@ -155,9 +168,34 @@ impl Run {
     fn enter(&self, case: &Case, counters: &mut [i64; 4], place: usize, round: i64) {
         let Some((way, number)) = case.entry(place, round) else { return };
         case.add_updates(counters, number);
-        if let (DriftWithWayIn, 1, Some(number)) = (self.mistake, way, case.0[P][place][2]) {
-            case.add_updates(counters, number as usize);
+        if way == 1 {
+            self.planted_drift(case, counters, place);
         }
+    }
+
+    /// The mistakes in what a round adds, made on going back to a loop's first place: each further round is off by the same moves.
+    fn planted_drift(&self, case: &Case, counters: &mut [i64; 4], first: usize) {
+        let places = &case.0[P];
+        let last = first + case.number(P, first, 4) - 1;
+        let way_in = |place: usize| Vec::from_iter(places[place][2].map(|number| number as usize));
+        let loops_before = || (0..first).filter(|&place| places[place][4].is_some());
+        let moves = match self.mistake {
+            DriftWithWayIn => [way_in(first), vec![]],
+            OnePlaceWithWayIn if first == last => [way_in(first), vec![]],
+            DriftWithoutBack => [vec![], vec![case.number(P, first, 6)]],
+            DriftWithoutLast if first < last => [vec![], way_in(last)],
+            DriftNotCleared => [loops_before().flat_map(|other| case.second_round(other)).collect(), vec![]],
+            DriftOfLast => [case.second_round(case.endless().expect("a finished plan").0), case.second_round(first)],
+            _ => return,
+        };
+        let [more, less] = moves.map(|moves| case.added_by(moves));
+        (0..4).for_each(|counter| counters[counter] += more[counter] - less[counter]);
+    }
+
+    /// The counters as a place of the present loop shows them; the mistake is to show those of the first round everywhere but at its first place.
+    fn shown(&self, at: usize, counters: [i64; 4]) -> [i64; 4] {
+        let first_round = self.moments.get(self.endless + at).filter(|_| self.mistake == DriftAtFirst && at > 0);
+        first_round.map_or(counters, |step| step.counters)
     }
 
     /// The moment after this one; after the first round of the endless loop its first place comes again.
@@ -183,7 +221,8 @@ impl Run {
             settled = true;
             for (at, step) in round_one.iter().enumerate() {
                 self.enter(case, &mut counters, step.place, 2);
-                let (before, now, truth) = (sums[at], guard_sum(guard, &counters), holds(guard, &counters));
+                let shown = self.shown(at, counters);
+                let (before, now, truth) = (sums[at], guard_sum(guard, &shown), holds(guard, &shown));
                 seen[at][!truth as usize] = true;
                 settled &= now == before || (now > before) == truth;
                 sums[at] = now;

@@ -7,12 +7,14 @@ mod library;
 mod mistakes;
 mod random;
 mod reader;
+mod shapes;
 
 use checker::check;
 use library::{Answer, RESULTS};
 use mistakes::{Mistake, MISTAKES};
 use random::{misspelled, random_file, Random};
 use reader::{Case, Fields, F, P, ROOM, T};
+use shapes::{shapes, SHAPES};
 use std::collections::BTreeMap;
 use std::process::exit;
 
@@ -47,6 +49,8 @@ struct Seen {
     rich: usize,
     /// By kind, cases that were taken whole and fill the room.
     full: [usize; 5],
+    /// By shape, cases that have it and whose run was followed.
+    shaped: [usize; SHAPES.len()],
     /// By how many cases each mistake is found, up to `FOUND`.
     found: Vec<usize>,
     compared: usize,
@@ -62,6 +66,9 @@ impl Seen {
             for (times, (items, room)) in self.full.iter_mut().zip(case.0.iter().zip(ROOM)) {
                 *times += (items.len() == room) as usize;
             }
+            if answer[0] == 0 || answer[0] > 32 {
+                self.shaped.iter_mut().zip(shapes(&case)).for_each(|(times, has)| *times += has as usize);
+            }
         }
         for (times, (mistake, _)) in self.found.iter_mut().zip(MISTAKES) {
             if *times < FOUND {
@@ -71,15 +78,22 @@ impl Seen {
         self.compared += 1;
     }
 
+    /// By shape, how many of a hundred cases have it.
+    fn shares(&self) -> Vec<(&str, usize)> {
+        SHAPES.iter().zip(self.shaped).map(|((words, ..), times)| (*words, times * 100 / self.compared)).collect()
+    }
+
     /// Says what is missing for the cases to be a test; whether nothing is.
     fn enough(&self) -> bool {
         let accepted = self.results[&0];
         let seldom = |times: &usize| times * 2000 < self.compared;
         let results: Vec<_> = self.results.iter().filter(|(_, times)| seldom(times)).collect();
+        let unlike: Vec<_> = SHAPES.iter().zip(self.shares()).filter(|((_, least, _), (_, share))| share < least).map(|(_, share)| share).collect();
         let unfound: Vec<_> = MISTAKES.iter().zip(&self.found).filter(|(_, &times)| times < FOUND).map(|((_, words), _)| words).collect();
         let lacks = [
             (!results.is_empty(), format!("results seen too seldom, and how often: {results:?}")),
             (self.full.iter().any(|times| seldom(times)), format!("too few cases that fill the room of a kind: {:?}", self.full)),
+            (!unlike.is_empty(), format!("counted loops seen too seldom, and in how many of 100 cases: {unlike:?}")),
             (accepted * 4 < self.compared, format!("only {accepted} cases are accepted")),
             (self.rich * 2 < accepted, format!("only {} accepted cases have a guarded loop and a counting until", self.rich)),
             (self.too_long * 100 > self.compared, format!("{} cases are too long", self.too_long)),
@@ -93,7 +107,7 @@ impl Seen {
 fn cases(count: usize, seed: u64) -> bool {
     let mut r = Random(seed);
     let results = RESULTS.iter().map(|&result| (result, 0)).collect();
-    let mut seen = Seen { results, rich: 0, full: [0; 5], found: vec![0; MISTAKES.len()], compared: 0, too_long: 0 };
+    let mut seen = Seen { results, rich: 0, full: [0; 5], shaped: [0; SHAPES.len()], found: vec![0; MISTAKES.len()], compared: 0, too_long: 0 };
     for bytes in misspelled(TWELVE).into_iter().chain(std::iter::repeat_with(|| random_file(&mut r))) {
         if seen.compared == count {
             break;
@@ -113,6 +127,7 @@ fn cases(count: usize, seed: u64) -> bool {
     }
     let found = seen.found.iter().filter(|&&times| times == FOUND).count();
     println!("unroll: how often each result: {:?}; cases that fill a room: {:?}", seen.results, seen.full);
+    println!("unroll: counted loops, and in how many of 100 cases: {:?}", seen.shares());
     println!("unroll: cases: {count} passed, 0 failed; they find {found} of {} planted mistakes", MISTAKES.len());
     seen.enough()
 }

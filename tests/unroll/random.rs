@@ -2,6 +2,7 @@
 use crate::checker::*;
 use crate::mistakes::Mistake;
 use crate::reader::*;
+use std::io::Write;
 
 /// The numbers that follow from a seed (splitmix64).
 pub struct Random(pub u64);
@@ -50,8 +51,14 @@ fn filled(contents: &[i64]) -> Fields {
 }
 
 fn record(kind: usize, fields: &Fields) -> Vec<u8> {
-    let mut bytes = vec![LETTERS[kind]];
-    fields[1..].iter().for_each(|&content| bytes.extend(spelled(content).bytes()));
+    let mut bytes = Vec::with_capacity(LENGTH);
+    bytes.push(LETTERS[kind]);
+    for content in &fields[1..] {
+        match content {
+            Some(number) => write!(bytes, "{number:>WIDTH$}").expect("room for a number"),
+            None => bytes.extend([b' '; WIDTH]),
+        }
+    }
     bytes.push(b'\n');
     bytes
 }
@@ -64,7 +71,8 @@ pub fn random_file(r: &mut Random) -> Vec<u8> {
     }
     let (wide, slips) = (r.chance(8), r.chance(15));
     let case = Maker { r, case: Case::default(), wide, slips }.plan();
-    let bytes = (S..=P).flat_map(|kind| case.0[kind].iter().flat_map(move |item| record(kind, item))).collect();
+    let records = (S..=P).flat_map(|kind| case.0[kind].iter().map(move |item| record(kind, item)));
+    let bytes = records.collect::<Vec<_>>().concat();
     let times = if r.chance(50) { r.pick(&[1, 1, 1, 2]) } else { 0 };
     let mut file = Damaged { r, case: &case, bytes };
     (0..times).for_each(|_| file.damage());
@@ -88,18 +96,26 @@ impl Maker<'_> {
             self.case.0[S].push(filled(&[propositions]));
         }
         let longest = if self.r.chance(1) { 16 } else { 3 };
-        let before = if self.r.chance(5) { 0 } else { self.r.pick(&[1, 2, 2, 2, 3, 3]) };
-        let main_loop = self.r.below(before.max(1));
-        for at in 0..before {
-            let rounds = if at == main_loop { self.r.pick(&[2, 2, 3, 4, 5, 6]) } else { self.r.pick(&[1, 1, 2, 3, 25]) };
-            let looped = at == main_loop || self.r.chance(40);
-            self.stretch(longest, looped.then_some(Some(rounds)));
+        let loops = if self.r.chance(5) { 0 } else { self.r.pick(&[1, 1, 2, 2, 2, 3]) };
+        let main_loop = self.r.below(loops.max(1));
+        for at in 0..loops {
+            self.outside();
+            let rounds = if at == main_loop { self.r.pick(&[2, 2, 3, 4, 5, 6]) } else { self.r.pick(&[1, 1, 2, 2, 3, 3, 4, 25]) };
+            self.stretch(longest, Some(Some(rounds)));
         }
+        self.outside();
         self.stretch(longest, Some(None));
         let run = Run::new(&self.case, Mistake::Nothing, STEPS).expect("a short plan");
         self.guard_moves(&run);
         self.sentences(&run);
         self.case
+    }
+
+    /// No place outside loops, or a few.
+    fn outside(&mut self) {
+        for _ in 0..self.r.pick(&[0, 0, 0, 1, 1, 2]) {
+            self.stretch(1, None);
+        }
     }
 
     /// A loop (with its rounds; none for the endless one), or a place outside loops.
@@ -137,11 +153,17 @@ impl Maker<'_> {
         moves.len() as i64 - 1
     }
 
-    /// Guards for some moves, true wherever the move is taken.
+    /// Guards for some moves, true wherever the move is taken: for most back moves, and for more of the moves from the first loop on.
     fn guard_moves(&mut self, run: &Run) {
-        let backs: Vec<i64> = self.case.0[P].iter().filter(|place| place[5] >= Some(2)).filter_map(|place| place[6]).collect();
+        let places = &self.case.0[P];
+        let backs: Vec<i64> = places.iter().filter(|place| place[5] != Some(1)).filter_map(|place| place[6]).collect();
+        let later: Vec<i64> = places.iter().skip_while(|place| place[4].is_none()).skip(1).filter_map(|place| place[2]).collect();
         for number in 0..self.case.0[T].len() {
-            let first = if backs.contains(&(number as i64)) { 95 } else { 35 };
+            let first = match number as i64 {
+                number if backs.contains(&number) => 95,
+                number if later.contains(&number) => 60,
+                _ => 35,
+            };
             for (field, chance) in [(7, first), (8, 25)] {
                 if !self.r.chance(chance) || self.case.0[G].len() >= 28 {
                     break;
@@ -159,9 +181,8 @@ impl Maker<'_> {
         let taken = |step: &&Step, round| case.entry(step.place, round).is_some_and(|(_, entered)| entered == number);
         let mut uses: Vec<[i64; 4]> = run.moments.iter().filter(|step| taken(step, step.round)).map(|step| step.counters).collect();
         // what a round of the endless loop adds, and the counters when it starts again
-        let mut drift = [0; 4];
-        run.moments[run.endless..].iter().for_each(|step| case.add_updates(&mut drift, case.entry(step.place, 2).expect("a move").1));
         let first = &run.moments[run.endless];
+        let drift = case.added_by(case.second_round(first.place));
         if taken(&first, 2) {
             uses.push(std::array::from_fn(|counter| first.counters[counter] + drift[counter]));
         }
