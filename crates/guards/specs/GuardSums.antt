@@ -9,7 +9,7 @@ use lib.IntN.{ℤ, pos, _+ℤ_}
 use Rattle.laws.specs.Sizes.{size}
 use Rattle.kinds.specs.declared.Kind.the-variants as kind
 use Rattle.counters.specs.declared.Counters.{Counters}
-use Rattle.counters.specs.Vectors.{valueAt, at-is, sum-is}
+use Rattle.counters.specs.Vectors.{valueAt, at-is, sum-is, vecOf}
 use Rattle.counters.specs.Sum.{sum}
 use Rattle.counters.specs.Bounds.{sizes, sizes-le}
 use Rattle.items.specs.declared.LoopMark.{LoopMark}
@@ -22,11 +22,11 @@ use Rattle.meaning_laws.specs.Facts.{mostStart, Facts}
 use Rattle.verdict.specs.declared.Rounds.{Rounds}
 use Rattle.verdict.specs.declared.Throughout.{Throughout}
 use Rattle.verdict.specs.Rounds.{firstOf, roundsOf, through}
-use Rattle.verdict.specs.Forward.{drift, repeats, base}
+use Rattle.meaning.specs.Drift.{drift}
+use Rattle.verdict.specs.Forward.{repeats, base}
 use Rattle.verdict.specs.Verdict.{firstSum, roundSum}
 use Rattle.verdict_laws.specs.Steps.{first-le}
 use Rattle.rounds.specs.Last.{lastOf, mostRounds}
-use Rattle.tables.specs.Tables.{vecOf}
 use Rattle.tables.specs.Sizes.{repeats-size, drift-size, base-size}
 
 -- a guard on these counters over these rounds: its sums fit

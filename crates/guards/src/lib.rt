@@ -5,6 +5,7 @@ ghost use mathlib.Core.Bool.{cond};
 ghost use Prim.Native.Nat.{_+_, _<_, _^_};
 ghost use lib.IntN.{pos, _+ℤ_};
 ghost use Rattle.laws.specs.Sizes.{size};
+ghost use Rattle.rules.specs.Rules.{Closed};
 ghost use Rattle.collector.specs.Cases.{itemsOf};
 ghost use Rattle.collector.specs.Sound.{Sound};
 ghost use Rattle.meaning.specs.Run.{guardAt};
@@ -77,13 +78,13 @@ fn guard_at(c: Case, g: u8) -> Guard
 
 // The first place at which sentence i, guard g, is marked wrongly.
 pub fn guard_wrong(c: Case, t: Tables, i: u8, g: u8) -> usize
-    requires { ⌜ (Sound c) × (t ≡ tablesOf (itemsOf c)) ⌝ }
+    requires { ⌜ (Sound c) × (t ≡ tablesOf (itemsOf c)) × (Closed (itemsOf c)) ⌝ }
     ensures { λ r. ⌜ r ≡ wrongIn (itemsOf c) i (guardThrough (itemsOf c) (startOf (itemsOf c)) (guardAt (itemsOf c .guards) g)) ⌝ }
 {
     let places = c.places;
     let guard = guard_at(c, g);
     let firsts = t.firsts;
-    let drifts = t.drifts;
+    let drifts = c.drifts;
     let bases = t.bases;
     let mut p: usize = 0;
     while p < c.count.places {
@@ -91,7 +92,7 @@ pub fn guard_wrong(c: Case, t: Tables, i: u8, g: u8) -> usize
         let first = places[q];
         let mark = first.mark;
         let base = bases.at[p];
-        let drift = drifts.at[p];
+        let drift = drifts[q];
         let place = places[p];
         let t = guard_through(guard, base, drift, false, rounds::rounds_of(mark));
         if rounds::is_right(t, rounds::bit(place.marks, i)) {

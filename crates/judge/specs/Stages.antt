@@ -1,6 +1,6 @@
 -- The answer of a judgement, stage by stage: each by what its search found, or else by the next. Assumes nothing.
-use mathlib.Core.Path.{_≡_, refl, _∙_, sym, ap}
-use mathlib.Core.Bool.{Bool, true, false, cond, _&&_}
+use mathlib.Core.Path.{_≡_, refl, _∙_, sym, ap, subst₂}
+use mathlib.Core.Bool.{Bool, true, false, cond, _&&_, and-eq-true-iff}
 use Prim.Native.Nat.{ℕ, _-_, _<_}
 use lib.Dec.{eqb, ltb}
 use lib.ListN.{getD}
@@ -15,10 +15,11 @@ use Rattle.answers.specs.declared.Judgement.the-variants.{Accepted, Unfinished,
 use Rattle.rules.specs.Files.{itemCount}
 use Rattle.standing.specs.Standing.{isClosed}
 use Rattle.collector.specs.declared.Case.{Case}
-use Rattle.collector.specs.declared.Derived.{Derived}
 use Rattle.collector.specs.Cases.{itemsOf}
 use Rattle.collector.specs.Sound.{Sound}
-use Rattle.rules_laws.specs.Held.{counted, counts-are, derived}
+use Rattle.rules.specs.Rules.{Closed}
+use Rattle.rules_laws.specs.Loops.{closed-is}
+use Rattle.rules_laws.specs.Held.{counted, counts-are, loops-are}
 use Rattle.meaning.specs.Run.{Way}
 use Rattle.meaning.specs.Truth.{bit}
 use Rattle.meaning.specs.Judged.{startOf, stateAt, waysOf, Test, testsOf, Mark, marksOf, marked, root}
@@ -91,7 +92,7 @@ module _ {c : Case} (s : Sound c) where
   isFinished = ltb 0 (c .count .sentences) && isClosed (c .loops) (c .count .places)
 
   finished-is : isFinished ≡ finished x
-  finished-is = rw (ap (λ (d : Derived). d .loops) (derived s), counted c s kind.Sentence, counted c s kind.Place)
+  finished-is = rw (loops-are s, counted c s kind.Sentence, counted c s kind.Place)
 
   held-is : countsTotal (c .count) ≡ itemCount x
   held-is = ap countsTotal (counts-are c s)
@@ -114,6 +115,13 @@ module _ {c : Case} (s : Sound c) where
     some-sentence t =
         let n = c .count .sentences in
         tells-and (ltb 0 n) (isClosed (c .loops) (c .count .places)) (tells-lt 0 n) (λ d. d, λ d. d) .0 (sym e ∙ t) .0
+
+    -- the endless loop has closed
+    pub has-closed : b ≡ true → Closed x
+    has-closed t =
+        closed-is x (s .loops) .0
+        (subst₂ (λ l n. isClosed l n ≡ true) (loops-are s) (sym (counted c s kind.Place))
+        (and-eq-true-iff (ltb 0 (c .count .sentences)) (isClosed (c .loops) (c .count .places)) .0 (sym e ∙ t) .1))
 
   -- where r is the root, and b its mark at place 0
   pub by-root : {r : ℕ} {b : Bool} → r ≡ c .count .sentences - 1 → b ≡ bit (first .marks) r → cond b Accepted (RootUnmarked r) ≡ rootAnswer x

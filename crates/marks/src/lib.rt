@@ -6,6 +6,7 @@ ghost use lib.Dec.{leb};
 ghost use Rattle.kinds.specs.declared.Kind.the-variants as kind;
 ghost use Rattle.collector.specs.Cases.{itemsOf};
 ghost use Rattle.items.specs.Lists.{roomOf};
+ghost use Rattle.rules.specs.Rules.{Closed};
 ghost use Rattle.collector.specs.Sound.{Sound};
 ghost use Rattle.meaning.specs.Run.{stretch};
 ghost use Rattle.meaning.specs.Judged.{startOf, marksOf};
@@ -125,7 +126,7 @@ fn simple_wrong(c: Case, i: u8, form: Form) -> usize
 
 // The first wrong mark: by sentence, then by place.
 pub fn wrong_mark(c: Case, t: Tables) -> Search
-    requires { ⌜ (Sound c) × (t ≡ tablesOf (itemsOf c)) ⌝ }
+    requires { ⌜ (Sound c) × (t ≡ tablesOf (itemsOf c)) × (Closed (itemsOf c)) ⌝ }
     ensures { λ r. ⌜ r ≡ toldMark (firstNot (markRight (itemsOf c) (startOf (itemsOf c))) (marksOf (itemsOf c))) ⌝ }
 {
     let firsts = t.firsts;

@@ -11,7 +11,8 @@ use lib.IntN.{ℤ, pos}
 use lib.ListN.{length, set, getD, replicate, length-set, length-replicate}
 use lib.Seq.{getD-set-same, getD-set-other, ext-getD}
 use borrow.Author.Tests.{eqb-true, eqb-false}
-use Rattle.laws.specs.Tab.{tab, length-tab}
+use Rattle.laws.specs.Lists.{at-left}
+use Rattle.laws.specs.Tab.{tab, length-tab, entry}
 use Rattle.kinds.specs.declared.Kind.the-variants as kind
 use Rattle.items.specs.declared.Term.{Term}
 use Rattle.items.specs.Lists.{Items, roomOf}
@@ -21,8 +22,6 @@ use Rattle.rounds.specs.Bits.{unmarked}
 use Rattle.maxplus.specs.declared.Steps.{Steps}
 use Rattle.maxplus.specs.Numbers.{none, entryAt, choiceBy, stopOf, goOf}
 use Rattle.maxplus.specs.Shows.{StepsAre}
-use Rattle.tables.specs.Entries.{entry}
-use Rattle.tables.specs.Reads.{at-left}
 use Rattle.untils.specs.Sums.{stepsOf}
 
 -- of n entries, those below k are done, and there is nothing to do from m on

@@ -6,6 +6,7 @@ ghost use Prim.Native.Nat.{_+_, _-_, _≤_};
 ghost use Rattle.kinds.specs.declared.Kind.the-variants as kind;
 ghost use Rattle.collector.specs.Cases.{itemsOf};
 ghost use Rattle.items.specs.Lists.{roomOf};
+ghost use Rattle.rules.specs.Rules.{Closed};
 ghost use Rattle.collector.specs.Sound.{Sound};
 ghost use Rattle.meaning.specs.Run.{stretch, backOf};
 ghost use Rattle.meaning.specs.Judged.{startOf, waysOf, testsOf};
@@ -48,28 +49,13 @@ fn number(r: Ref) -> u8
     }
 }
 
-// The back move of a loop.
-fn back_of(m: LoopMark) -> Ref
-    ensures { λ r. ⌜ r ≡ backOf m ⌝ }
-{
-    match m {
-        LoopMark::None => Ref::None,
-        LoopMark::Counted {
-            length: _,
-            rounds: _,
-            back,
-        } => Ref::At(back),
-        LoopMark::Endless { length: _, back } => Ref::At(back),
-    }
-}
-
 // The move of a way into a place: the back move of the loop that it begins, or the move into it.
 fn move_into(place: Place, back: bool) -> Ref
     ensures { λ r. ⌜ r ≡ cond back (backOf (place .mark)) (place .way) ⌝ }
 {
     if back {
         let mark = place.mark;
-        return back_of(mark);
+        return collector::back_of(mark);
     }
     place.way
 }
@@ -173,14 +159,14 @@ fn misses(q: Ref, g: Guard, base: Counters, drift: Counters, back: bool, rounds:
 
 // The first guard that fails when its way is taken: by place, the way in before the back move, the first guard of the move before the second.
 pub fn guard_fails(c: Case, t: Tables) -> Search
-    requires { ⌜ (Sound c) × (t ≡ tablesOf (itemsOf c)) ⌝ }
+    requires { ⌜ (Sound c) × (t ≡ tablesOf (itemsOf c)) × (Closed (itemsOf c)) ⌝ }
     ensures { λ r. ⌜ r ≡ toldTest (firstNot (passes (itemsOf c) (startOf (itemsOf c))) (testsOf (itemsOf c))) ⌝ }
 {
     let guards = c.guards;
     let moves = c.moves;
     let places = c.places;
     let firsts = t.firsts;
-    let drifts = t.drifts;
+    let drifts = c.drifts;
     let bases = t.bases;
     let mut k: usize = 0;
     while k < 4 * c.count.places {
@@ -198,7 +184,7 @@ pub fn guard_fails(c: Case, t: Tables) -> Search
         let first = places[f];
         let around = first.mark;
         let base = bases.at[p];
-        let drift = drifts.at[p];
+        let drift = drifts[f];
         if misses(
             q,
             g,

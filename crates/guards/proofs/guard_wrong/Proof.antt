@@ -93,10 +93,10 @@ element-copy-out-base : tie.Need-element-copy-out-base Inv-loop μ-loop
 element-copy-out-base c = room (c .before .before)
 
 mul-drift : tie.Need-mul-drift Inv-loop μ-loop
-mul-drift c = omega (arith, room (c .before .before .before))
+mul-drift c = omega (arith, within (c .before .before .before))
 
-element-copy-out-drift : tie.Need-element-copy-out-drift Inv-loop μ-loop
-element-copy-out-drift c = room (c .before .before .before)
+array-copy-out-drift : tie.Need-array-copy-out-drift Inv-loop μ-loop
+array-copy-out-drift c = within (c .before .before .before)
 
 mul-place : tie.Need-mul-place Inv-loop μ-loop
 mul-place c = omega (arith, room (c .before .before .before .before))
@@ -114,14 +114,14 @@ module _ (c : tie.After-rounds-of Inv-loop μ-loop) where
 
   known :
       Known (x (t l)) (startOf (x (t l))) (t l .args .g) (p l) (l .before .before .before .before .before .before .guard-at .result)
-      (getD (t l .args .t .bases .at) (p l) (record { at = [] })) (getD (t l .args .t .drifts .at) (p l) (record { at = [] }))
+      (getD (t l .args .t .bases .at) (p l) (record { at = [] })) (getD (t l .args .c .drifts) (getD (t l .args .t .firsts .at) (p l) 0) (record { at = [] }))
   known =
       let s = t l .pre .0 in
       let e = t l .pre .1 in
       record {
         guard = l .before .before .before .before .before .before .guard-at .ensures;
         base = base-is s e (p l) (inside l) _;
-        drift = drift-is s e (p l) (inside l) _;
+        drift = drift-is s (t l .pre .2) (ap (λ (t : Tables). t .firsts) e) (p l) (inside l) _;
       }
 
   rounds : c .rounds-of .result ≡ roundsOf (loopOf (x (t l) .places) (p l))
@@ -183,7 +183,7 @@ guard-wrong-spec =
     mul-base
     element-copy-out-base
     mul-drift
-    element-copy-out-drift
+    array-copy-out-drift
     mul-place
     array-copy-out-place
     rounds-of-requires

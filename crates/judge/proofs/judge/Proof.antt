@@ -6,6 +6,7 @@ use borrow.Author.Tests.{not-true, not-false}
 use Rattle.laws.specs.All.{sumOver}
 use Rattle.kinds.specs.declared.Kind.the-variants as kind
 use Rattle.items.specs.Lists.{Items}
+use Rattle.rules.specs.Rules.{Closed}
 use Rattle.collector.specs.Cases.{itemsOf}
 use Rattle.rules_laws.specs.Held.{total-room}
 use Rattle.answers.specs.declared.Judgement.the-variants.{Unfinished}
@@ -22,6 +23,7 @@ use Rattle.judge.specs.Stages.{
   wrong-start,
   started,
   some-sentence,
+  has-closed,
   by-root,
 }
 use Rattle.judge.proofs.judge.Statement.{statement}
@@ -35,6 +37,9 @@ module _ (c : tie.After-unconnected) where
 
   abbrev x : Items
   x = itemsOf (t .args .c)
+
+  plan-closed : Closed x
+  plan-closed = let d = c .before .before .before .before .before in has-closed (t .pre) (d .before .finished .ensures) (not-false _ (d .if1 .left))
 
   by-way : verdict x (startOf x) ≡ orUnconnected (c .unconnected .result) (guardsAnswer x)
   by-way =
@@ -109,7 +114,7 @@ of-requires : tie.Need-of-requires
 of-requires c κs = search needs
 
 guard-fails-requires : tie.Need-guard-fails-requires
-guard-fails-requires c κs = search needs
+guard-fails-requires c κs = let d = c .before .before .before in (t d .pre, c .of .ensures, plan-closed d)
 
 enum-known-guard : tie.Need-enum-known-guard
 enum-known-guard c = search needs
@@ -123,7 +128,7 @@ enum-told-2 : tie.Need-enum-told-2
 enum-told-2 c = search needs
 
 wrong-mark-requires : tie.Need-wrong-mark-requires
-wrong-mark-requires c κs = search needs
+wrong-mark-requires c κs = let d = c .before .before in (t (u d) .pre, d .before .of .ensures, plan-closed (u d))
 
 enum-known-mark : tie.Need-enum-known-mark
 enum-known-mark c = search needs

@@ -161,10 +161,10 @@ element-copy-out-base : tie.Need-element-copy-out-base Inv-loop μ-loop
 element-copy-out-base c = inside (c .before .before .before .before .before .before .before .before .before .before)
 
 mul-drift : tie.Need-mul-drift Inv-loop μ-loop
-mul-drift c = omega (arith, inside (c .before .before .before .before .before .before .before .before .before .before .before))
+mul-drift c = omega (arith, first-room (c .before .before))
 
-element-copy-out-drift : tie.Need-element-copy-out-drift Inv-loop μ-loop
-element-copy-out-drift c = inside (c .before .before .before .before .before .before .before .before .before .before .before)
+array-copy-out-drift : tie.Need-array-copy-out-drift Inv-loop μ-loop
+array-copy-out-drift c = first-room (c .before .before)
 
 rounds-by-requires : tie.Need-rounds-by-requires Inv-loop μ-loop
 rounds-by-requires c κs = search needs
@@ -179,7 +179,7 @@ misses-requires c κs =
     (record {
       guard = guard-at (y .pre .0) k (i .if1 .taken) _ (guard-no (c .before .before .before .before .before .before));
       base = base-is (y .pre .0) (y .pre .1) (k / 2 / 2) (held i) _;
-      drift = drift-is (y .pre .0) (y .pre .1) (k / 2 / 2) (held i) _;
+      drift = drift-is (y .pre .0) (y .pre .2) (firsts-are y) (k / 2 / 2) (held i) _;
     })
     (rounds-are c) (inside i)
 
@@ -199,7 +199,7 @@ test c =
     (record {
       guard = guard-at (y .pre .0) k (i .if1 .taken) _ (guard-no (c .before .before .before .before .before .before .before));
       base = base-is (y .pre .0) (y .pre .1) (k / 2 / 2) (held i) _;
-      drift = drift-is (y .pre .0) (y .pre .1) (k / 2 / 2) (held i) _;
+      drift = drift-is (y .pre .0) (y .pre .2) (firsts-are y) (k / 2 / 2) (held i) _;
     })
     (rounds-are (c .before))))
 
@@ -256,7 +256,7 @@ guard-fails-spec =
     mul-base
     element-copy-out-base
     mul-drift
-    element-copy-out-drift
+    array-copy-out-drift
     rounds-by-requires
     misses-requires
     returns
