@@ -1,5 +1,6 @@
 // A case, and its collector: a record's bytes become the next item of their kind, or are refused and nothing changes.
 ghost use mathlib.Core.Path.{_≡_};
+ghost use mathlib.Core.Bool.{cond};
 ghost use Prim.Native.Nat.{_+_, _-_, _≤_, _<_, min};
 ghost use Rattle.record.specs.Layout.{recordLength};
 ghost use Rattle.kinds.specs.declared.Kind.the-variants as kind;
@@ -75,7 +76,7 @@ pub fn slot(r: Ref) -> usize
 }
 
 // The back move of a loop.
-pub fn back_of(m: LoopMark) -> Ref
+fn back_of(m: LoopMark) -> Ref
     ensures { λ r. ⌜ r ≡ backOf m ⌝ }
 {
     match m {
@@ -87,6 +88,17 @@ pub fn back_of(m: LoopMark) -> Ref
         } => Ref::At(back),
         LoopMark::Endless { length: _, back } => Ref::At(back),
     }
+}
+
+// The move of a way into a place: the back move of the loop that it begins, or the move into it.
+pub fn move_into(place: Place, back: bool) -> Ref
+    ensures { λ r. ⌜ r ≡ cond back (backOf (place .mark)) (place .way) ⌝ }
+{
+    if back {
+        let mark = place.mark;
+        return back_of(mark);
+    }
+    place.way
 }
 
 // What stands where no guard and no place is held yet.
@@ -172,10 +184,9 @@ impl Case {
     {
         let moves = self.moves;
         let places = self.places;
-        let place = places[q];
-        let mark = place.mark;
+        let first = places[q];
         let mut v = counters::zero();
-        let mut t = slot(back_of(mark));
+        let mut t = slot(move_into(first, true));
         if t < Case::MOVES {
             let m = moves[t];
             v = counters::plus(v, m.updates);
@@ -183,8 +194,7 @@ impl Case {
         let mut p = q;
         while p < n {
             let place = places[p + 1];
-            let way = place.way;
-            t = slot(way);
+            t = slot(move_into(place, false));
             if t < Case::MOVES {
                 let m = moves[t];
                 v = counters::plus(v, m.updates);

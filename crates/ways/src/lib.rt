@@ -49,17 +49,6 @@ fn number(r: Ref) -> u8
     }
 }
 
-// The move of a way into a place: the back move of the loop that it begins, or the move into it.
-fn move_into(place: Place, back: bool) -> Ref
-    ensures { λ r. ⌜ r ≡ cond back (backOf (place .mark)) (place .way) ⌝ }
-{
-    if back {
-        let mark = place.mark;
-        return collector::back_of(mark);
-    }
-    place.way
-}
-
 // The place that a way into place p comes from: the last place of the loop that p begins, or the place before.
 fn place_before(p: usize, mark: LoopMark, back: bool) -> usize
     requires { ⌜ (1 ≤ stretch mark) × (p + stretch mark ≤ roomOf kind.Place) ⌝ }
@@ -99,7 +88,7 @@ pub fn unconnected(c: Case) -> Search
         let back = k % 2 == 1;
         let place = places[p];
         let mark = place.mark;
-        let r = move_into(place, back);
+        let r = collector::move_into(place, back);
         let t = number(r);
         let m = moves[t as usize];
         let q = place_before(p, mark, back);
@@ -175,7 +164,7 @@ pub fn guard_fails(c: Case, t: Tables) -> Search
         let back = w % 2 == 1;
         let place = places[p];
         let own = place.mark;
-        let r = move_into(place, back);
+        let r = collector::move_into(place, back);
         let m = moves[number(r) as usize];
         let q = given(r, guard_by(m, k % 2 == 1));
         let u = number(q);

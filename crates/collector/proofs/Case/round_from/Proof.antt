@@ -55,7 +55,7 @@ module _ (c : tie.After-slot Inv-loop μ-loop) where
 begun : (c : tie.Joined1 Inv-loop μ-loop) → let b = c .before in Sums (c .if1 .v) (λ j. aroundBy (plan (ts b) (ps b)) j (q b) (q b - q b)) (q b - q b + 1)
 begun c =
     let b = c .before in
-    let e = b .slot .ensures ∙ ap slotOf (b .before .back-of .ensures) in
+    let e = b .slot .ensures ∙ ap slotOf (b .before .move-into .ensures) in
     let r = backOf (placeAt (ps b) (q b) .mark) in
     round-begun (plan (ts b) (ps b)) (q b) (q b - q b) (omega arith)
     (⊎-elim
@@ -69,35 +69,36 @@ inside : (c : tie.In-loop Inv-loop μ-loop) → c .before .loop .p + 1 < roomOf 
 inside c = omega (arith, c .loop-test .taken, s (c .before .before .before) .pre .1)
 
 gone-on : (c : tie.Joined2 Inv-loop μ-loop) →
-    let b = c .before .before .before .before .before .before in
-    let l = c .before .before .before .before .loop in
+    let b = c .before .before .before .before .before .before .before in
+    let l = c .before .before .before .before .before .loop in
     Sums (c .if2 .v) (λ j. aroundBy (plan (ts b) (ps b)) j (q b) (l .p + 1 - q b)) (l .p + 1 - q b + 1)
 gone-on c =
     let a = c .before in
-    let l = a .before .before .before .loop in
-    let b = a .before .before .before .before .before in
+    let l = a .before .before .before .before .loop in
+    let b = a .before .before .before .before .before .before in
+    let e = a .slot2 .ensures ∙ ap slotOf (a .before .move-into2 .ensures) in
     let r = placeAt (ps b) (l .p + 1) .way in
     let f : ℕ → ℤ = λ j. aroundBy (plan (ts b) (ps b)) j (q b) (l .p - q b) in
     let i = l .inv in
     round-on (plan (ts b) (ps b)) (q b) (l .p - q b) (l .p + 1 - q b) (l .p + 1) (omega (arith, i .0)) (omega (arith, i .0))
     (⊎-elim
     (λ w. subst (λ v. Sums v (λ j. f j +ℤ update (moveAt (ts b) r) j) (l .p - q b + 1 + 1)) (sym (w .3))
-    (sums-more (ts b) (long b) r (a .slot2 .ensures) (i .2) _ (w .0 .taken) (w .2 .ensures .0) (w .2 .ensures .1)))
+    (sums-more (ts b) (long b) r e (i .2) _ (w .0 .taken) (w .2 .ensures .0) (w .2 .ensures .1)))
     (λ w. subst (λ v. Sums v (λ j. f j +ℤ update (moveAt (ts b) r) j) (l .p - q b + 1 + 1)) (sym (w .1))
-    (sums-kept (ts b) (long b) r (a .slot2 .ensures) (i .2) (w .0 .left)))
+    (sums-kept (ts b) (long b) r e (i .2) (w .0 .left)))
     (c .if2 .came))
 
-mul-place : tie.Need-mul-place Inv-loop μ-loop
-mul-place c = record { fits = omega (arith, c .before .before .pre) }
+mul-first : tie.Need-mul-first Inv-loop μ-loop
+mul-first c = record { fits = omega (arith, c .before .before .pre) }
 
-array-copy-out-place : tie.Need-array-copy-out-place Inv-loop μ-loop
-array-copy-out-place c = omega (arith, c .before .before .pre)
+array-copy-out-first : tie.Need-array-copy-out-first Inv-loop μ-loop
+array-copy-out-first c = omega (arith, c .before .before .pre)
 
 zero-requires : tie.Need-zero-requires Inv-loop μ-loop
 zero-requires c κs = search needs
 
-back-of-requires : tie.Need-back-of-requires Inv-loop μ-loop
-back-of-requires c κs = search needs
+move-into-requires : tie.Need-move-into-requires Inv-loop μ-loop
+move-into-requires c κs = search needs
 
 slot-requires : tie.Need-slot-requires Inv-loop μ-loop
 slot-requires c κs = search needs
@@ -117,11 +118,14 @@ loop-holds c = (omega arith, s (c .before) .pre .0, begun c)
 add-place : tie.Need-add-place Inv-loop μ-loop
 add-place c = search needs
 
-mul-place-2 : tie.Need-mul-place-2 Inv-loop μ-loop
-mul-place-2 c = record { fits = omega (arith, inside c) }
+mul-place : tie.Need-mul-place Inv-loop μ-loop
+mul-place c = record { fits = omega (arith, inside c) }
 
-array-copy-out-place-2 : tie.Need-array-copy-out-place-2 Inv-loop μ-loop
-array-copy-out-place-2 c = inside c
+array-copy-out-place : tie.Need-array-copy-out-place Inv-loop μ-loop
+array-copy-out-place c = inside c
+
+move-into-requires-2 : tie.Need-move-into-requires-2 Inv-loop μ-loop
+move-into-requires-2 c κs = search needs
 
 slot-requires-2 : tie.Need-slot-requires-2 Inv-loop μ-loop
 slot-requires-2 c κs = search needs
@@ -133,7 +137,7 @@ array-copy-out-m-2 : tie.Need-array-copy-out-m-2 Inv-loop μ-loop
 array-copy-out-m-2 c = search needs
 
 plus-requires-2 : tie.Need-plus-requires-2 Inv-loop μ-loop
-plus-requires-2 c κs = let l = c .before .before .before .before in sums-fit (l .before .loop .inv .2) (omega (arith, inside l))
+plus-requires-2 c κs = let l = c .before .before .before .before .before in sums-fit (l .before .loop .inv .2) (omega (arith, inside l))
 
 add-p : tie.Need-add-p Inv-loop μ-loop
 add-p c = search needs
@@ -143,7 +147,7 @@ loop-less c = search needs
 
 loop-again : tie.Need-loop-again Inv-loop μ-loop
 loop-again c =
-    let l = c .before .before .before .before .loop in
+    let l = c .before .before .before .before .before .loop in
     (omega (arith, l .inv .0), omega arith, gone-on c)
 
 returns : tie.Need-returns Inv-loop μ-loop
@@ -162,18 +166,19 @@ round-from-spec =
     (tie.spec
     Inv-loop
     μ-loop
-    mul-place
-    array-copy-out-place
+    mul-first
+    array-copy-out-first
     zero-requires
-    back-of-requires
+    move-into-requires
     slot-requires
     mul-m
     array-copy-out-m
     plus-requires
     loop-holds
     add-place
-    mul-place-2
-    array-copy-out-place-2
+    mul-place
+    array-copy-out-place
+    move-into-requires-2
     slot-requires-2
     mul-m-2
     array-copy-out-m-2
