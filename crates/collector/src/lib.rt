@@ -186,15 +186,15 @@ impl Case {
         let places = self.places;
         let first = places[q];
         let mut v = counters::zero();
-        let mut t = slot(move_into(first, true));
-        if t < Case::MOVES {
-            let m = moves[t];
+        let back = slot(move_into(first, true));
+        if back < Case::MOVES {
+            let m = moves[back];
             v = counters::plus(v, m.updates);
         }
         let mut p = q;
         while p < n {
             let place = places[p + 1];
-            t = slot(move_into(place, false));
+            let t = slot(move_into(place, false));
             if t < Case::MOVES {
                 let m = moves[t];
                 v = counters::plus(v, m.updates);

@@ -24,10 +24,10 @@ abbrev plan : List Move → List Place → Items
 plan ts ps = record { states = []; guards = []; moves = ts; sentences = []; places = ps }
 
 abbrev Inv-loop : tie.InvT-loop
-Inv-loop q n moves places v₀ t₀ p₀ v t p = (q ≤ p) × (p ≤ n) × Sums v (λ j. aroundBy (plan moves places) j q (p - q)) (p - q + 1)
+Inv-loop q n moves places v₀ back p₀ v p = (q ≤ p) × (p ≤ n) × Sums v (λ j. aroundBy (plan moves places) j q (p - q)) (p - q + 1)
 
 abbrev μ-loop : tie.MeasureT-loop
-μ-loop q n moves places v₀ t₀ p₀ v t p = n - p
+μ-loop q n moves places v₀ back p₀ v p = n - p
 
 unmapped : (X Y : Type 0) (f : X → Y) (l : List X) (n : ℕ) → length (map f l) ≡ n → length l ≡ n
 unmapped X Y f l n e = sym (length-map l f) ∙ e

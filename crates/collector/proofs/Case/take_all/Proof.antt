@@ -75,9 +75,10 @@ within : (c : tie.Then2 Inv-loop μ-loop) →
     let b = l .before .before .before .before .before .before .before .before .before .before .before .before .before .before .before .before .before .before .before .before .loop .self in
     (l .after .result .first .0 ≤ b .count .places) × (b .count .places < roomOf kind.Place)
 within c =
-    let e = c .before in
-    (leb-true _ _ (and-eq-true-iff _ _ .0 (sym (e .ends-at .ensures) ∙ c .if2 .taken) .0),
-    omega (arith, room (e .before .before .before .before .before .before .before) kind.Place (e .before .before .before .before .before .enum-told6 .given .1)))
+    let e = c .before in (
+      leb-true _ _ (and-eq-true-iff _ _ .0 (sym (e .ends-at .ensures) ∙ c .if2 .taken) .0),
+      omega (arith, room (e .before .before .before .before .before .before .before) kind.Place (e .before .before .before .before .before .enum-told6 .given .1)),
+    )
 
 -- what is stored is the item that the record says
 stored-so : (c : tie.At-match2-came Inv-loop μ-loop) → let d = c .before .before .before .before .before .before in let h = d .before .before .before in c .match2 .self ≡ stored (h .before .before .before .before .before .before .loop .self) (h .head .given .0 .0) (d .read .result)
