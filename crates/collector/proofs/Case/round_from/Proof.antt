@@ -60,8 +60,8 @@ begun c =
     round-begun (plan (ts b) (ps b)) (q b) (q b - q b) (omega arith)
     (⊎-elim
     (λ w. subst (λ v. Sums v (λ j. pos 0 +ℤ update (moveAt (ts b) r) j) (0 + 1)) (sym (w .3))
-    (sums-more (ts b) (long b) r e (none b) _ (w .0 .taken) (w .2 .ensures .0) (w .2 .ensures .1)))
-    (λ w. subst (λ v. Sums v (λ j. pos 0 +ℤ update (moveAt (ts b) r) j) (0 + 1)) (sym (w .1)) (sums-kept (ts b) (long b) r e (none b) (w .0 .left)))
+    (sums-more (ts b) (long b) r e (none b) _ (omega (arith, w .0 .taken)) (w .2 .ensures .0) (w .2 .ensures .1)))
+    (λ w. subst (λ v. Sums v (λ j. pos 0 +ℤ update (moveAt (ts b) r) j) (0 + 1)) (sym (w .1)) (sums-kept (ts b) (long b) r e (none b) (omega (arith, w .0 .left))))
     (c .if1 .came))
 
 -- and the next place
@@ -122,7 +122,7 @@ mul-place : tie.Need-mul-place Inv-loop μ-loop
 mul-place c = record { fits = omega (arith, inside c) }
 
 array-copy-out-place : tie.Need-array-copy-out-place Inv-loop μ-loop
-array-copy-out-place c = inside c
+array-copy-out-place c = omega (arith, inside c)
 
 move-into-requires-2 : tie.Need-move-into-requires-2 Inv-loop μ-loop
 move-into-requires-2 c κs = search needs

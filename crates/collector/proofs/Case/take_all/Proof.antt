@@ -251,7 +251,7 @@ ends-at-requires : tie.Need-ends-at-requires Inv-loop μ-loop
 ends-at-requires c κs = omega (arith, room (c .before .before .before .before .before .before) kind.Place (c .before .before .before .before .enum-told6 .given .1))
 
 round-from-requires : tie.Need-round-from-requires Inv-loop μ-loop
-round-from-requires c κs = within (c .before)
+round-from-requires c κs = (omega (arith, within (c .before)), omega (arith, within (c .before)))
 
 mul-sums : tie.Need-mul-sums Inv-loop μ-loop
 mul-sums c = record { fits = omega (arith, within (c .before .before)) }
