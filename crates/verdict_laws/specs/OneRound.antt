@@ -1,18 +1,29 @@
--- One round later the counters at a place are more by exactly the drift of its loop, from any start. Assumes nothing.
-use mathlib.Core.Path.{_≡_, refl, ap}
+-- One round later the counters at a place are more by exactly the drift of its loop, from any start: by what a case keeps with a loop that has closed.
+-- Assumes nothing.
+use mathlib.Core.Path.{_≡_, refl, sym, _∙_, ap}
 use mathlib.Core.List.{List}
-use mathlib.Core.Bool.{true}
-use Prim.Native.Nat.{ℕ, suc, _+_, _-_}
+use mathlib.Core.Bool.{true, true≢false}
+use Prim.Native.Nat.{ℕ, suc, _+_, _-_, _≤_, _<_}
+use native.Mathlib.Decide.{decLt}
 use native.Mathlib.Numerals.{add-one}
 use native.Mathlib.Omega.{arith}
 use lib.IntN.{_+ℤ_}
+use lib.ListN.{length, List·getD-eq-default}
+use Rattle.kinds.specs.declared.Kind.the-variants as kind
+use Rattle.kinds.specs.Kinds.{counters}
 use Rattle.counters.specs.Sum.{Valuation}
 use Rattle.items.specs.declared.Place.{Place}
-use Rattle.items.specs.Lists.{Items}
-use Rattle.rules.specs.Rules.{markAt}
+use Rattle.items.specs.Lists.{Items, noItem}
+use Rattle.rules.specs.Rules.{markAt, endAt}
+use Rattle.collector.specs.declared.Case.{Case}
+use Rattle.collector.specs.Cases.{itemsOf}
+use Rattle.collector.specs.Sound.{Sound}
+use Rattle.rules_laws.specs.Held.{counted}
+use Rattle.rules_laws.specs.KeptDrifts.{keptAt, keeps-drifts}
 use Rattle.meaning.specs.Run.{Moment, Spot, here, stretch, goesAgain, spot, countersAt}
 use Rattle.meaning.specs.Drift.{drift}
 use Rattle.meaning_laws.specs.Facts.{Laid}
+use Rattle.meaning_laws.specs.Given.{facts}
 use Rattle.meaning_laws.specs.Walk.{spotAt, next-back, after, along}
 use Rattle.meaning_laws.specs.Stays.{inside}
 use Rattle.verdict.specs.Forward.{base}
@@ -55,3 +66,26 @@ module _ (x : Items) (laid : Laid (x .places)) where
         let e = comes-again in
         later-visit θ j m (m + stretch (markAt ps (spot ps m .first)))
         (ap (λ (s : Spot). s .first) e) (ap (λ (s : Spot). s .step) e) (ap (λ (s : Spot). s .round) e)
+
+-- a stretch that is gone through again has a mark, and so begins at a place that is held
+held-first : (ps : List Place) (q r : ℕ) → goesAgain (markAt ps q) r ≡ true → q < length ps
+held-first ps q r e =
+    elim (decLt q (length ps)) [
+      | yes h ↦ h
+      | no h ↦
+          absurd
+          (true≢false (sym e ∙ ap (λ (p : Place). goesAgain (p .mark) r) (List·getD-eq-default ps (noItem kind.Place) {n = q} (omega arith))))
+    ]
+
+-- what a case keeps with the first place of a loop that has closed is what a round of it adds
+pub kept-is-added : (c : Case) → Sound c → (θ : Valuation) (m : Moment) (j : ℕ) → j < counters →
+    let x = itemsOf c in
+    let s = spot (x .places) m in
+    goesAgain (markAt (x .places) (s .first)) (s .round) ≡ true → endAt (x .places) (s .first) ≤ c .count .places →
+    countersAt x θ (m + stretch (markAt (x .places) (s .first))) j ≡ countersAt x θ m j +ℤ keptAt c (s .first) j
+kept-is-added c s θ m j h a e =
+    let x = itemsOf c in
+    let q = spot (x .places) m .first in
+    let n = held-first (x .places) q (spot (x .places) m .round) a in
+    one-round-later x (facts c s .laid) m a θ j
+    ∙ ap (λ z. countersAt x θ m j +ℤ z) (sym (keeps-drifts c s .closed q j (omega (arith, counted c s kind.Place)) h e))
