@@ -6,3 +6,4 @@ pub mod Taken
 pub mod Demands
 pub mod Starred
 pub mod Worked
+pub mod WorkedDrifts
