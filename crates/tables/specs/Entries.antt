@@ -10,7 +10,6 @@ use lib.Seq.{set-at, append-snoc}
 use Rattle.laws.specs.Tab.{tab, length-tab, entry}
 use Rattle.kinds.specs.declared.Kind.the-variants as kind
 use Rattle.counters.specs.declared.Counters.{Counters}
-use Rattle.counters.specs.Vectors.{noValues}
 use Rattle.items.specs.declared.Place.{Place}
 use Rattle.items.specs.Lists.{roomOf}
 use Rattle.verdict.specs.Rounds.{firstOf}
@@ -31,7 +30,7 @@ module _ {A : Type 0} (g : ℕ → A) (n : ℕ) where
   tab-last (suc k) i e = ap (λ l. g i ∷ l) (tab-last k (i + 1) (omega arith))
 
   -- the first k of n entries are those of g, and the others z: one entry of g more
-  pub front-next : (z : A) (k : ℕ) → k < n → set (tab k 0 g ++ replicate (n - k) z) k (g k) ≡ tab (k + 1) 0 g ++ replicate (n - (k + 1)) z
+  front-next : (z : A) (k : ℕ) → k < n → set (tab k 0 g ++ replicate (n - k) z) k (g k) ≡ tab (k + 1) 0 g ++ replicate (n - (k + 1)) z
   front-next z k h =
       let e : n - k ≡ suc (n - (k + 1)) = omega arith in
       let t : tab (k + 1) 0 g ≡ tab k 0 g ++ (g k ∷ []) = rw (add-one k) (sym (tab-last k 0 (omega arith))) in
@@ -48,17 +47,13 @@ values-at n f e p d h = ap (λ (t : Table). getD (t .at) p d) e ∙ front (value
 
 -- ---- a table that a loop fills
 
--- xs has the values f j at the first p places, and 0 past them
-pub record Begun (f : ℕ → ℕ → ℤ) (xs : List Counters) (p : ℕ) : Type 0 where
-  pub so : xs ≡ tableOf p f .at
+-- xs has g at the first p places, and z past them
+pub record Begun {A : Type 0} (g : ℕ → A) (z : A) (xs : List A) (p : ℕ) : Type 0 where
+  pub so : xs ≡ tab p 0 g ++ replicate (roomOf kind.Place - p) z
 
-pub begin : {f : ℕ → ℕ → ℤ} {v : Counters} → v .at ≡ noValues .at → Begun f (replicate (roomOf kind.Place) v) 0
-begin e = record { so = ap (λ (l : List ℤ). replicate (roomOf kind.Place) (record { at = l })) e }
+module _ {A : Type 0} {g : ℕ → A} {z : A} where
+  pub begin : {v : A} → v ≡ z → Begun g z (replicate (roomOf kind.Place) v) 0
+  begin e = record { so = ap (replicate (roomOf kind.Place)) e }
 
-module _ {f : ℕ → ℕ → ℤ} {xs : List Counters} {p : ℕ} (b : Begun f xs p) where
-  pub go-on : {v : Counters} → v ≡ valuesOf f p → p < roomOf kind.Place → Begun f (set xs p v) (p + 1)
-  go-on e h =
-      record { so = ap₂ (λ (l : List Counters) (v : Counters). set l p v) (b .so) e ∙ front-next (valuesOf f) (roomOf kind.Place) noValues p h }
-
-  pub finish : {n : ℕ} → p ≡ n → _≡_ {A = Table} (record { at = xs }) (tableOf n f)
-  finish e = ap (λ (l : List Counters). record { at = l }) (b .so) ∙ ap (λ n. tableOf n f) e
+  pub go-on : {xs : List A} {p : ℕ} {v : A} → Begun g z xs p → v ≡ g p → p < roomOf kind.Place → Begun g z (set xs p v) (p + 1)
+  go-on {p = p} b e h = record { so = ap₂ (λ (l : List A) (v : A). set l p v) (b .so) e ∙ front-next g (roomOf kind.Place) z p h }

@@ -7,17 +7,14 @@ use lib.ListN.{length, getD}
 use Rattle.kinds.specs.declared.Kind.the-variants as kind
 use Rattle.counters.specs.declared.Counters.{Counters}
 use Rattle.counters.specs.Vectors.{vecOf}
-use Rattle.items.specs.declared.LoopMark.{LoopMark}
-use Rattle.items.specs.declared.LoopMark.the-variants as mark
 use Rattle.items.specs.declared.Place.{Place}
 use Rattle.items.specs.Lists.{Items, roomOf, noItem}
 use Rattle.collector.specs.declared.Case.{Case}
 use Rattle.collector.specs.Cases.{itemsOf}
 use Rattle.collector.specs.Sound.{Sound}
-use Rattle.rules.specs.Rules.{Closed, markAt, lengthOf}
+use Rattle.rules.specs.Rules.{Closed}
 use Rattle.rules_laws.specs.Held.{counted}
 use Rattle.rules_laws.specs.Loops.{all-closed}
-use Rattle.rules_laws.specs.KeptDrifts.{closed-entry}
 use Rattle.meaning.specs.Run.{stretch}
 use Rattle.meaning.specs.Drift.{drift}
 use Rattle.meaning.specs.Truth.{bit}
@@ -33,7 +30,7 @@ use Rattle.tables.specs.declared.Tables.{Tables}
 use Rattle.tables.specs.Tables.{firstsOf, tablesOf}
 use Rattle.tables.specs.Reads.{at-places}
 use Rattle.tables.specs.Entries.{first-at, values-at}
-use Rattle.tables.specs.Stretches.{first-below, mark-is, end-in}
+use Rattle.tables.specs.Stretches.{first-below, mark-is, drift-kept, end-in}
 
 module _ {c : Case} (s : Sound c) {f : Firsts} (e : f ≡ firstsOf (itemsOf c .places)) (p : ℕ) (h : p < length (itemsOf c .places)) where
   -- the items, the first place of the stretch of place p, as the table has it, and what stands there
@@ -63,14 +60,6 @@ module _ {c : Case} (s : Sound c) {f : Firsts} (e : f ≡ firstsOf (itemsOf c .p
 
 -- ---- the counters of a place that is held
 
-length-le : (m : LoopMark) → lengthOf m ≤ stretch m
-length-le mark.None = omega arith
-length-le (mark.Counted l n b) = omega arith
-length-le (mark.Endless l b) = omega arith
-
-first-in : {c : Case} (s : Sound c) (p : ℕ) → p < length (itemsOf c .places) → firstOf (itemsOf c .places) p < roomOf kind.Place
-first-in {c} s p h = omega (arith, first-le (itemsOf c .places) p, counted c s kind.Place, s .room kind.Place)
-
 module _ {c : Case} (s : Sound c) {t : Tables} (e : t ≡ tablesOf (itemsOf c)) (p : ℕ) (h : p < length (itemsOf c .places)) where
   pub base-is : (d : Counters) → getD (t .bases .at) p d ≡ vecOf (λ j. base (itemsOf c) (startOf (itemsOf c)) j p)
   base-is d = values-at (length (itemsOf c .places)) (base (itemsOf c) (startOf (itemsOf c))) (ap (λ (t : Tables). t .bases) e) p d h
@@ -80,17 +69,7 @@ pub drift-is : {c : Case} (s : Sound c) → Closed (itemsOf c) → {f : Firsts} 
     getD (c .drifts) (getD (f .at) p 0) d ≡ vecOf (λ j. drift (itemsOf c) j (firstOf (itemsOf c .places) p))
 drift-is {c} s k e p h d =
     let q = firstOf (itemsOf c .places) p in
-    ap (λ n. getD (c .drifts) n d) (first-is s e p h)
-    ∙ closed-entry s q d (first-in s p h) (all-closed (itemsOf c) (s .loops) k q (omega (arith, first-le (itemsOf c .places) p)))
-
--- the same at the last place of a stretch, whether or not the endless loop has closed
-pub drift-at-end : {c : Case} (s : Sound c) {f : Firsts} (e : f ≡ firstsOf (itemsOf c .places)) (p : ℕ) (h : p < length (itemsOf c .places)) (d : Counters) →
-    firstOf (itemsOf c .places) p + stretch (loopOf (itemsOf c .places) p) ≤ p + 1 →
-    getD (c .drifts) (getD (f .at) p 0) d ≡ vecOf (λ j. drift (itemsOf c) j (firstOf (itemsOf c .places) p))
-drift-at-end {c} s e p h d l =
-    let q = firstOf (itemsOf c .places) p in
-    ap (λ n. getD (c .drifts) n d) (first-is s e p h)
-    ∙ closed-entry s q d (first-in s p h) (omega (arith, length-le (markAt (itemsOf c .places) q)))
+    drift-kept s p (room s e p h) (first-is s e p h) d (all-closed (itemsOf c) (s .loops) k q (omega (arith, first-le (itemsOf c .places) p)))
 
 -- ---- the mark of sentence i at place p, against what the sentence is by f
 

@@ -4,7 +4,7 @@ ghost use Rattle.counters.specs.Vectors.{vecOf};
 ghost use Rattle.collector.specs.Cases.{itemsOf};
 ghost use Rattle.collector.specs.Sound.{Sound};
 ghost use Rattle.meaning.specs.Judged.{startOf};
-ghost use Rattle.tables.specs.Tables.{firstsOf, basesOf, tablesOf};
+ghost use Rattle.tables.specs.Tables.{tablesOf};
 use collector::Case;
 use counters::Counters;
 
@@ -24,29 +24,6 @@ pub struct Tables {
     pub bases: Table,
 }
 
-impl Firsts {
-    // Those of a case.
-    fn of(c: Case) -> Firsts
-        requires { ⌜ Sound c ⌝ }
-        ensures { λ r. ⌜ r ≡ firstsOf (itemsOf c .places) ⌝ }
-    {
-        let places = c.places;
-        let mut at = [0u8; Case::PLACES];
-        let mut first: usize = 0;
-        let mut p: usize = 0;
-        while p < c.count.places {
-            at[p] = first as u8;
-            p = p + 1;
-            let place = places[first];
-            let mark = place.mark;
-            if first + rounds::stretch(mark) <= p {
-                first = p;
-            }
-        }
-        Firsts { at: at }
-    }
-}
-
 // The counters at the start.
 fn start(c: Case) -> Counters
     ensures { λ r. ⌜ r ≡ vecOf (startOf (itemsOf c)) ⌝ }
@@ -54,50 +31,43 @@ fn start(c: Case) -> Counters
     counters::zero()
 }
 
-// The counters of each place that is held in its first round: each way adds its updates, and at the end of a loop each further round adds the drift.
-fn bases(c: Case, f: Firsts) -> Table
-    requires { ⌜ Sound c × (f ≡ firstsOf (itemsOf c .places)) ⌝ }
-    ensures { λ r. ⌜ r ≡ basesOf (itemsOf c) ⌝ }
-{
-    let moves = c.moves;
-    let places = c.places;
-    let drifts = c.drifts;
-    let mut at = [counters::zero(); Case::PLACES];
-    let mut v = start(c);
-    let mut p: usize = 0;
-    while p < c.count.places {
-        let place = places[p];
-        let way = place.way;
-        let t = collector::slot(way);
-        if t < Case::MOVES {
-            let m = moves[t];
-            v = counters::plus(v, m.updates);
-        }
-        at[p] = v;
-        let q = f.at[p] as usize;
-        let first = places[q];
-        let mark = first.mark;
-        p = p + 1;
-        if q + rounds::stretch(mark) <= p {
-            let d = drifts[q];
-            let k = rounds::repeats(mark);
-            v = counters::more(v, k as i64, d);
-        }
-    }
-    Table { at: at }
-}
-
 impl Tables {
-    // Those of a case.
+    // Those of a case, place by place: each way adds its updates, and at the end of a loop each further round adds its drift.
     pub fn of(c: Case) -> Tables
         requires { ⌜ Sound c ⌝ }
         ensures { λ r. ⌜ r ≡ tablesOf (itemsOf c) ⌝ }
     {
-        let f = Firsts::of(c);
-        let b = bases(c, f);
+        let moves = c.moves;
+        let places = c.places;
+        let drifts = c.drifts;
+        let mut firsts = [0u8; Case::PLACES];
+        let mut bases = [counters::zero(); Case::PLACES];
+        let mut v = start(c);
+        let mut q: usize = 0;
+        let mut p: usize = 0;
+        while p < c.count.places {
+            let place = places[p];
+            let way = place.way;
+            let t = collector::slot(way);
+            if t < Case::MOVES {
+                let m = moves[t];
+                v = counters::plus(v, m.updates);
+            }
+            firsts[p] = q as u8;
+            bases[p] = v;
+            let first = places[q];
+            let mark = first.mark;
+            p = p + 1;
+            if q + rounds::stretch(mark) <= p {
+                let d = drifts[q];
+                let k = rounds::repeats(mark);
+                v = counters::more(v, k as i64, d);
+                q = p;
+            }
+        }
         Tables {
-            firsts: f,
-            bases: b,
+            firsts: Firsts { at: firsts },
+            bases: Table { at: bases },
         }
     }
 }
