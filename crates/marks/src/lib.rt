@@ -57,6 +57,7 @@ fn next_wrong(c: Case, firsts: Firsts, i: u8, a: u8) -> usize
     requires { ⌜ (Sound c) × (firsts ≡ firstsOf (itemsOf c .places)) ⌝ }
     ensures { λ r. ⌜ r ≡ wrongIn (itemsOf c) i (nextThrough (itemsOf c) a) ⌝ }
 {
+    let places = c.places;
     let n = c.count.places;
     let mut wrong = n;
     let mut out = false;
@@ -64,9 +65,9 @@ fn next_wrong(c: Case, firsts: Firsts, i: u8, a: u8) -> usize
     while 0 < p {
         p = p - 1;
         let q = firsts.at[p] as usize;
-        let first = c.places[q];
+        let first = places[q];
         let mark = first.mark;
-        let here = c.places[p];
+        let here = places[p];
         let t = next_through(p, q, mark, rounds::bit(first.marks, a), out);
         if !rounds::is_right(t, rounds::bit(here.marks, i)) {
             wrong = p;

@@ -1,21 +1,27 @@
 -- The arrays of a case with the invariant read as its items do, at every index: what is left of the room is as past the end.
 -- Assumes nothing.
 use mathlib.Core.Path.{_≡_, _∙_, ap}
+use mathlib.Core.List.{List, []}
 use Prim.Native.Nat.{ℕ, _-_, _<_}
 use native.Mathlib.Omega.{arith}
-use lib.ListN.{length, getD}
+use lib.ListN.{length, getD, take}
 use Rattle.laws.specs.Lists.{at-front, within}
 use Rattle.kinds.specs.declared.Kind.{Kind}
 use Rattle.kinds.specs.declared.Kind.the-variants as kind
 use Rattle.items.specs.declared.Guard.{Guard}
 use Rattle.items.specs.declared.Move.{Move}
+use Rattle.items.specs.declared.Place.{Place}
 use Rattle.items.specs.Items.{Item}
-use Rattle.items.specs.Lists.{listOf, roomOf, noItem}
+use Rattle.items.specs.Lists.{Items, listOf, roomOf, noItem}
 use Rattle.collector.specs.declared.Case.{Case}
 use Rattle.collector.specs.Cases.{arraysOf, itemsOf}
 use Rattle.collector.specs.Sound.{Sound}
 use Rattle.rules_laws.specs.Held.{padded, long}
 use Rattle.meaning.specs.Run.{placeAt, guardAt}
+
+-- the first n of these places and no other items: what is said of places alone is said of it, where the case is no longer at hand
+abbrev pub placesOnly : List Place → ℕ → Items
+placesOnly ps n = record { states = []; guards = []; moves = []; sentences = []; places = take n ps }
 
 module _ {c : Case} (s : Sound c) where
   at-items : (k : Kind) (i : ℕ) → getD (listOf k (arraysOf c)) i (noItem k) ≡ getD (listOf k (itemsOf c)) i (noItem k)

@@ -68,9 +68,10 @@ pub fn until_wrong(
     requires { ⌜ (Sound c) × ((firsts ≡ firstsOf (itemsOf c .places)) × ((Mild t) × (Mild u))) ⌝ }
     ensures { λ r. ⌜ r ≡ wrongIn (itemsOf c) i (untilsOf (itemsOf c) (labelOf (marked (itemsOf c)) a b t u) bound) ⌝ }
 {
+    let places = c.places;
+    let n = c.count.places;
     let steps = steps_of(c, a, b, t, u);
     let z = bound as i64;
-    let n = c.count.places;
     let mut wrong = n;
     let mut first = maxplus::NONE;
     let mut last = maxplus::NONE;
@@ -78,7 +79,7 @@ pub fn until_wrong(
     while 0 < p {
         p = p - 1;
         let q = firsts.at[p] as usize;
-        let begin = c.places[q];
+        let begin = places[q];
         let mark = begin.mark;
         if q + rounds::stretch(mark) <= p + 1 {
             let ends = maxplus::around(&steps.stops, &steps.goes, q, mark, first);
@@ -89,7 +90,7 @@ pub fn until_wrong(
         let go = steps.goes[p];
         first = maxplus::step(stop, go, first);
         last = maxplus::step(stop, go, last);
-        let here = c.places[p];
+        let here = places[p];
         if !rounds::is_right(
             rounds::agree(z <= first, z <= last),
             rounds::bit(here.marks, i),

@@ -15,7 +15,7 @@ use Rattle.rules_laws.specs.Held.{counted}
 use Rattle.meaning.specs.Truth.{bit}
 use Rattle.meaning.specs.Judged.{marked}
 use Rattle.verdict.specs.Verdict.{nextThrough}
-use Rattle.tables.specs.Reads.{at-places}
+use Rattle.tables.specs.Reads.{placesOnly, at-places}
 use Rattle.rounds.specs.Wrong.{isRight}
 use Rattle.rounds.specs.Search.{offFrom, off-start, down-start, down-off, down-on}
 use Rattle.rounds.specs.Bits.{unmarked}
@@ -25,16 +25,16 @@ use Rattle.marks.proofs.next_wrong.Statement.{statement}
 use Rattle.marks.proofs.next_wrong.Tie as tie
 
 abbrev Inv-loop : tie.InvT-loop
-Inv-loop i a c firsts n wrong₀ out₀ p₀ wrong out p =
-    let x = itemsOf c in
+Inv-loop i a firsts places n wrong₀ out₀ p₀ wrong out p =
+    let x = placesOnly places n in
     (p ≤ n) × ((out ≡ marked x a p) × (wrong ≡ offFrom (isRight x i (nextThrough x a)) n p))
 
 abbrev μ-loop : tie.MeasureT-loop
-μ-loop i a c firsts n wrong₀ out₀ p₀ wrong out p = p
+μ-loop i a firsts places n wrong₀ out₀ p₀ wrong out p = p
 
 module _ (c : tie.In-loop Inv-loop μ-loop) where
   abbrev t : tie.Start Inv-loop μ-loop
-  t = c .before .before
+  t = c .before .before .before
 
   -- the place of this turn
   abbrev p : ℕ
@@ -43,17 +43,18 @@ module _ (c : tie.In-loop Inv-loop μ-loop) where
   inside : p < roomOf kind.Place
   inside = omega (arith, t .pre .0 .room kind.Place)
 
-  held : p < length (itemsOf (t .args .t1) .places)
-  held = omega (arith, counted (t .args .t1) (t .pre .0) kind.Place)
+  held : p < length (itemsOf (t .args .c) .places)
+  held = omega (arith, counted (t .args .c) (t .pre .0) kind.Place)
 
   within : getD (t .args .t2 .at) p 0 < roomOf kind.Place
   within = first-within (t .pre .0) (t .pre .1) p held
 
 loop-holds : tie.Need-loop-holds Inv-loop μ-loop
 loop-holds c =
-    let x = itemsOf (c .args .t1) in
-    let n = c .args .t1 .count .places in
-    (omega arith, (sym (unmarked x (c .args .a) n (omega (arith, counted (c .args .t1) (c .pre .0) kind.Place))), down-start _ n))
+    let t = c .before in
+    let x = itemsOf (t .args .c) in
+    let n = t .args .c .count .places in
+    (omega arith, (sym (unmarked x (t .args .a) n (omega (arith, counted (t .args .c) (t .pre .0) kind.Place))), down-start _ n))
 
 sub-p : tie.Need-sub-p Inv-loop μ-loop
 sub-p c = omega arith
@@ -67,14 +68,14 @@ cast-q c = omega (arith, within (c .before))
 mul-first : tie.Need-mul-first Inv-loop μ-loop
 mul-first c = omega (arith, within (c .before))
 
-element-copy-out-first : tie.Need-element-copy-out-first Inv-loop μ-loop
-element-copy-out-first c = within (c .before)
+array-copy-out-first : tie.Need-array-copy-out-first Inv-loop μ-loop
+array-copy-out-first c = within (c .before)
 
 mul-here : tie.Need-mul-here Inv-loop μ-loop
 mul-here c = omega (arith, inside (c .before .before))
 
-element-copy-out-here : tie.Need-element-copy-out-here Inv-loop μ-loop
-element-copy-out-here c = inside (c .before .before)
+array-copy-out-here : tie.Need-array-copy-out-here Inv-loop μ-loop
+array-copy-out-here c = inside (c .before .before)
 
 bit-requires : tie.Need-bit-requires Inv-loop μ-loop
 bit-requires c κs = search needs
@@ -99,14 +100,14 @@ loop-less c = omega arith
 -- the test made is that of place p
 test : (c : tie.After-is-right Inv-loop μ-loop) →
     let l = c .before .before .before .before .before .before .before in
-    let x = itemsOf (t l .args .t1) in
+    let x = itemsOf (t l .args .c) in
     c .is-right .result ≡ isRight x (t l .args .i) (nextThrough x (t l .args .a)) (p l)
 test c =
     let l = c .before .before .before .before .before .before .before in
     let m = l .before .loop in
     let s = t l .pre .0 in
     let a = t l .args .a in
-    let x = itemsOf (t l .args .t1) in
+    let x = itemsOf (t l .args .c) in
     let e : m .p ≡ suc (p l) = omega arith in
     let d = c .before .before in
     c .is-right .ensures
@@ -118,9 +119,9 @@ loop-again c =
     let r = c .before .before in
     let l = r .before .before .before .before .before .before .before in
     let m = l .before .loop in
-    let x = itemsOf (t l .args .t1) in
+    let x = itemsOf (t l .args .c) in
     let ok = isRight x (t l .args .i) (nextThrough x (t l .args .a)) in
-    let n = t l .args .t1 .count .places in (
+    let n = t l .args .c .count .places in (
       omega arith,
       (
         c .bit3 .ensures ∙ ap (λ (y : Place). bit (y .marks) (t l .args .a)) (at-places (t l .pre .0) (p l)),
@@ -135,7 +136,7 @@ returns : tie.Need-returns Inv-loop μ-loop
 returns c =
     let l = c .before in
     let e : l .loop .p ≡ 0 = omega arith in
-    let k = counted (l .before .args .t1) (l .before .pre .0) kind.Place in
+    let k = counted (l .before .before .args .c) (l .before .before .pre .0) kind.Place in
     l .loop .inv .1 .1 ∙ rw (e, k) (sym (off-start _ _))
 
 pub next-wrong-spec : {M : Type 1} → statement M
@@ -149,9 +150,9 @@ next-wrong-spec =
     element-copy-out-q
     cast-q
     mul-first
-    element-copy-out-first
+    array-copy-out-first
     mul-here
-    element-copy-out-here
+    array-copy-out-here
     bit-requires
     next-through-requires
     bit-requires-2

@@ -1,5 +1,6 @@
 -- From the last place that is held to the first: whatever labels the steps are of, first and last show their best sums at place p, and the first place from
--- p on that is marked wrongly is known. (The terms of the until are no longer at hand in the loop, so its invariant is about all such labels.) Assumes nothing.
+-- p on that is marked wrongly is known. (The terms of the until and the case are no longer at hand in the loop: its invariant is about all such labels, and
+-- about the places alone.) Assumes nothing.
 use mathlib.Core.Path.{_≡_, sym, _∙_, ap, ap₂}
 use mathlib.Core.Logic.{⊎-elim}
 use Prim.Native.Nat.{ℕ, _-_, _≤_, _<_}
@@ -27,6 +28,7 @@ use Rattle.maxplus.specs.Bounds.{Light}
 use Rattle.maxplus.specs.Shows.{StepsAre}
 use Rattle.tables.specs.Entries.{first-at}
 use Rattle.tables.specs.Known.{right-is}
+use Rattle.tables.specs.Reads.{placesOnly}
 use Rattle.tables.specs.Stretches.{first-below, mark-is, end-in}
 use borrow.Author.Needs.{needs, sfits-of}
 use borrow.Author.Tests.{not-true, not-false}
@@ -38,21 +40,22 @@ use Rattle.untils.proofs.until_wrong.Statement.{statement}
 use Rattle.untils.proofs.until_wrong.Tie as tie
 
 abbrev Inv-loop : tie.InvT-loop
-Inv-loop i a b bound c firsts steps z n wrong₀ first₀ last₀ p₀ wrong first last p =
-    (p ≤ length (itemsOf c .places))
+Inv-loop i a b bound firsts places n steps z wrong₀ first₀ last₀ p₀ wrong first last p =
+    let x = placesOnly places n in
+    (p ≤ length (x .places))
     × ((l : ℕ → Label) → Light l → StepsAre l (entryAt (steps .stops)) (entryAt (steps .goes)) →
-    (Shown (itemsOf c) l p (toZ w64 first) (toZ w64 last))
-    × (wrong ≡ offFrom (isRight (itemsOf c) i (untilsOf (itemsOf c) l (toZ w32 bound))) (length (itemsOf c .places)) p))
+    (Shown x l p (toZ w64 first) (toZ w64 last))
+    × (wrong ≡ offFrom (isRight x i (untilsOf x l (toZ w32 bound))) (length (x .places)) p))
 
 abbrev μ-loop : tie.MeasureT-loop
-μ-loop i a b bound c firsts steps z n wrong₀ first₀ last₀ p₀ wrong first last p = p
+μ-loop i a b bound firsts places n steps z wrong₀ first₀ last₀ p₀ wrong first last p = p
 
 module _ (c : tie.After-steps-of Inv-loop μ-loop) where
   abbrev t : tie.Start Inv-loop μ-loop
-  t = c .before
+  t = c .before .before
 
   abbrev x : Items
-  x = itemsOf (t .args .t1)
+  x = itemsOf (t .args .c)
 
   -- the steps of the places
   abbrev s : ℕ → ℤ
@@ -71,8 +74,8 @@ module _ (c : tie.After-steps-of Inv-loop μ-loop) where
   are : StepsAre labels s g
   are = steps-are labels (c .steps-of .ensures)
 
-  count-is : length (x .places) ≡ t .args .t1 .count .places
-  count-is = counted (t .args .t1) (t .pre .0) kind.Place
+  count-is : length (x .places) ≡ t .args .c .count .places
+  count-is = counted (t .args .c) (t .pre .0) kind.Place
 
   few : length (x .places) ≤ roomOf kind.Place
   few = omega (arith, count-is, t .pre .0 .room kind.Place)
@@ -94,7 +97,7 @@ module _ (c : tie.In-loop Inv-loop μ-loop) where
   q = getD (t b .args .t2 .at) p 0
 
   abbrev mark : LoopMark
-  mark = getD (t b .args .t1 .places) q (noItem kind.Place) .mark
+  mark = getD (t b .args .c .places) q (noItem kind.Place) .mark
 
   below : p < roomOf kind.Place
   below = omega (arith, few b)
@@ -113,7 +116,7 @@ module _ (c : tie.In-loop Inv-loop μ-loop) where
   TurnOf l = Turn (x b) l (s b) (g b) i
 
   turn : (l : ℕ → Label) → Light l → StepsAre l (s b) (g b) → TurnOf l
-  turn l h k = record { facts = facts (t b .args .t1) (t b .pre .0); light = h; are = k; some = c .loop-test .taken; held = c .before .loop .inv .0 }
+  turn l h k = record { facts = facts (t b .args .c) (t b .pre .0); light = h; are = k; some = c .loop-test .taken; held = c .before .loop .inv .0 }
 
   own : TurnOf (labels b)
   own = turn (labels b) (light b) (are b)
@@ -125,7 +128,7 @@ steps-of-requires : tie.Need-steps-of-requires Inv-loop μ-loop
 steps-of-requires c κs = search needs
 
 cast-z : tie.Need-cast-z Inv-loop μ-loop
-cast-z c = let f = c .before .fits .bound in rw (toZ-ofZ f) (sfits-widen tt f)
+cast-z c = let f = c .before .before .fits .bound in rw (toZ-ofZ f) (sfits-widen tt f)
 
 loop-holds : tie.Need-loop-holds Inv-loop μ-loop
 loop-holds c =
@@ -144,8 +147,8 @@ cast-q c = omega (arith, first-in (c .before))
 mul-begin : tie.Need-mul-begin Inv-loop μ-loop
 mul-begin c = omega (arith, first-in (c .before))
 
-element-copy-out-begin : tie.Need-element-copy-out-begin Inv-loop μ-loop
-element-copy-out-begin c = first-in (c .before)
+array-copy-out-begin : tie.Need-array-copy-out-begin Inv-loop μ-loop
+array-copy-out-begin c = first-in (c .before)
 
 stretch-requires : tie.Need-stretch-requires Inv-loop μ-loop
 stretch-requires c κs = search needs
@@ -209,8 +212,8 @@ step-requires-2 c κs =
 mul-here : tie.Need-mul-here Inv-loop μ-loop
 mul-here c = omega (arith, below (k (c .before .before .before .before)))
 
-element-copy-out-here : tie.Need-element-copy-out-here Inv-loop μ-loop
-element-copy-out-here c = below (k (c .before .before .before .before))
+array-copy-out-here : tie.Need-array-copy-out-here Inv-loop μ-loop
+array-copy-out-here c = below (k (c .before .before .before .before))
 
 agree-requires : tie.Need-agree-requires Inv-loop μ-loop
 agree-requires c κs = search needs
@@ -300,7 +303,7 @@ until-wrong-spec =
     element-copy-out-q
     cast-q
     mul-begin
-    element-copy-out-begin
+    array-copy-out-begin
     stretch-requires
     add-if1
     add-if1-2
@@ -312,7 +315,7 @@ until-wrong-spec =
     step-requires
     step-requires-2
     mul-here
-    element-copy-out-here
+    array-copy-out-here
     agree-requires
     bit-requires
     is-right-requires
