@@ -21,7 +21,7 @@ use std::process::exit;
 const TWELVE: &[u8] = include_bytes!("../../crates/plancheck/stdin");
 /// Steps of unrolling allowed for a random case, and for a stored one.
 const STEPS: u64 = 500_000;
-const STORED_STEPS: u64 = 100_000_000;
+const STORED_STEPS: u64 = 10_000_000;
 /// A mistake is tried until so many cases have found it.
 const FOUND: usize = 3;
 
