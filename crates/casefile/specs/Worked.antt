@@ -35,7 +35,7 @@ use Rattle.meaning.specs.Judged.{Judged, startOf}
 use Rattle.meaning_laws.specs.Walk.{spotAt}
 use Rattle.verdict.specs.Labels.{weightOf}
 use Rattle.verdict.specs.Rounds.{firstOf, through}
-use Rattle.meaning.specs.Drift.{aroundBy, drift}
+use Rattle.meaning.specs.Drift.{onceAround, drift}
 use Rattle.verdict.specs.Forward.{base}
 use Rattle.verdict.specs.Best.{greater, step, chain, wholeSum, power, limit, front}
 use Rattle.verdict.specs.Verdict.{formThrough, firstNot, verdict}
@@ -196,7 +196,7 @@ worked =
     ∷ []
 
 worked-answers : map (λ (r : Worked). answerOf (bytesOf (r .0))) worked ≡ map (λ (r : Worked). r .1) worked
-unfolding worked fourRounds rising looped both withRecord twelveRounds bytesOf lowest contentFrom negative alone leading digits fieldAt recordOf sumOver kindIn lastBelow shapeOf ruleAt lowestFault rangeAnswer extraAnswer missingAnswer formAnswer fieldsAnswer endedHead headOf perCounter stateOf guardOf moveOf formOf sentenceOf markOf placeOf emptyCase wayAnswer markAnswer placeAnswer thereAnswer roomAnswer orderAnswer standing.recordAnswer takenAs takenOf cutFrom cut collectedFrom collectedOf loopsFrom moveAt sum bit weightOf from gather startOf firstOf through aroundBy drift base greater step chain wholeSum power limit front formThrough firstNot verdict answerOf
+unfolding worked fourRounds rising looped both withRecord twelveRounds bytesOf lowest contentFrom negative alone leading digits fieldAt recordOf sumOver kindIn lastBelow shapeOf ruleAt lowestFault rangeAnswer extraAnswer missingAnswer formAnswer fieldsAnswer endedHead headOf perCounter stateOf guardOf moveOf formOf sentenceOf markOf placeOf emptyCase wayAnswer markAnswer placeAnswer thereAnswer roomAnswer orderAnswer standing.recordAnswer takenAs takenOf cutFrom cut collectedFrom collectedOf loopsFrom moveAt sum bit weightOf from gather startOf firstOf through onceAround drift base greater step chain wholeSum power limit front formThrough firstNot verdict answerOf
 worked-answers = refl
 
 -- the meaning says of each file what the table gives

@@ -20,7 +20,7 @@ use Rattle.collector.specs.Cases.{driftsOf, emptyCase}
 use Rattle.collector.specs.Taking.{takenAs, takenOf, collectedFrom, collectedOf}
 use Rattle.rules_laws.specs.KeptDrifts.{keptAt}
 use Rattle.meaning.specs.Run.{moveAt}
-use Rattle.meaning.specs.Drift.{aroundBy, drift}
+use Rattle.meaning.specs.Drift.{onceAround, drift}
 use Rattle.casefile.specs.Starred.{bytesOf}
 
 -- Moves 0 to 5 add 100, 5, -2, 1000, 7 and 1 to counter 0. Places 1 and 2 are a loop of 9 rounds: the way in adds 100, the way to its second place 5,
@@ -53,5 +53,5 @@ pub worked-drifts : map keptAfter (8 ∷ 9 ∷ 10 ∷ 11 ∷ 12 ∷ []) ≡
     ∷ (pos 3 ∷ pos 7 ∷ pos 0 ∷ [])
     ∷ (pos 3 ∷ pos 7 ∷ pos 1 ∷ [])
     ∷ []
-unfolding threeLoops bytesOf lowest contentFrom negative alone leading digits fieldAt recordOf sumOver kindIn lastBelow shapeOf ruleAt lowestFault rangeAnswer extraAnswer missingAnswer formAnswer fieldsAnswer endedHead headOf perCounter stateOf moveOf markOf placeOf emptyCase wayAnswer markAnswer placeAnswer thereAnswer roomAnswer orderAnswer recordAnswer takenAs takenOf cutFrom cut collectedFrom collectedOf loopsFrom moveAt aroundBy drift driftsOf
+unfolding threeLoops bytesOf lowest contentFrom negative alone leading digits fieldAt recordOf sumOver kindIn lastBelow shapeOf ruleAt lowestFault rangeAnswer extraAnswer missingAnswer formAnswer fieldsAnswer endedHead headOf perCounter stateOf moveOf markOf placeOf emptyCase wayAnswer markAnswer placeAnswer thereAnswer roomAnswer orderAnswer recordAnswer takenAs takenOf cutFrom cut collectedFrom collectedOf loopsFrom moveAt onceAround drift driftsOf
 worked-drifts = refl

@@ -16,6 +16,7 @@ use Rattle.kinds.specs.declared.Letter.{Letter}
 use Rattle.kinds.specs.declared.Letter.the-variants.{Names, Unknown}
 use Rattle.kinds.specs.declared.Kind.the-variants as kind
 use Rattle.kinds.specs.Kinds.{countOf, kindOf}
+use Rattle.items.specs.declared.Place.{Place}
 use Rattle.items.specs.Items.{itemOf, placeOf}
 use Rattle.checks.specs.declared.Head.{Head}
 use Rattle.checks.specs.declared.Head.the-variants.{Of, Refused}
@@ -24,6 +25,7 @@ use Rattle.answers.specs.declared.Answer.the-variants.{Taken, NotARecord, NoLin
 use Rattle.answers.specs.Answers.{numberOf, thirdOf, testOrder, turnOf, isTaken}
 use Rattle.answers.specs.Laws.{in-order, taken-is}
 use Rattle.checks.specs.Input.{namedHead, endedHead, headOf}
+use Rattle.standing.specs.declared.Loops.{Loops}
 use Rattle.standing.specs.Standing.{loopsAfter, isLoopEnd, recordAnswer}
 use Rattle.collector.specs.declared.Case.{Case}
 use Rattle.collector.specs.declared.Result.{Result}
@@ -112,9 +114,12 @@ placed c r t =
     let a = changed kind.Place (λ j l. set l (countOf n j) (itemOf j (r .fields))) (arraysOf c) in
     caseBy (oneMore n kind.Place) l (cond t (set (c .drifts) q (roundFrom a q p)) (c .drifts)) a
 
-pub stored-place : (c : Case) (r : Record) (t : Bool) →
-    isLoopEnd (loopsAfter (c .loops) (c .count .places) (placeOf (r .fields) .mark)) (c .count .places) ≡ t → stored c kind.Place r ≡ placed c r t
-stored-place c r t e = ap (placed c r) e
+-- p is the place, l the loops after it, and b tells whether it closes one
+pub stored-place : (c : Case) (r : Record) {p : Place} {l : Loops} {b t : Bool} → p ≡ placeOf (r .fields) →
+    l ≡ loopsAfter (c .loops) (c .count .places) (p .mark) → b ≡ isLoopEnd l (c .count .places) → b ≡ t → placed c r t ≡ stored c kind.Place r
+stored-place c r i j k e =
+    let n = c .count .places in
+    ap (placed c r) (sym e ∙ k ∙ ap (λ l. isLoopEnd l n) (j ∙ ap (λ (p : Place). loopsAfter (c .loops) n (p .mark)) i))
 
 -- what the records give where the next is r, of kind k, and is answered a, which takes it or not
 abbrev pub step : Case → ℕ → List (List ℕ) → Kind → Record → Answer → Bool → Collected

@@ -24,7 +24,7 @@ use Rattle.items.specs.declared.Move.{Move}
 use Rattle.items.specs.Lists.{Items, itemsBy, roomOf, noItem}
 use Rattle.rules.specs.Rules.{markAt, endAt}
 use Rattle.meaning.specs.Run.{stretch, backOf, moveAt, update}
-use Rattle.meaning.specs.Drift.{inBy, backBy, aroundBy, drift}
+use Rattle.meaning.specs.Drift.{inBy, backBy, onceAround, drift}
 use Rattle.collector.specs.Cases.{slotOf, driftsOf}
 
 -- v has the values f j, each a sum of k numbers of 16 bits
@@ -92,32 +92,32 @@ module _ (ts : List Move) (long : length ts ≡ roomOf kind.Move) {t : ℕ} (r :
 
 module _ (x y : Items) (j q : ℕ) where
   -- two rows of items whose ways from place q to place q + n add the same
-  pub around-same : (n : ℕ) → backBy x j q ≡ backBy y j q → ((p : ℕ) → q < p → p ≤ q + n → inBy x j p ≡ inBy y j p) → aroundBy x j q n ≡ aroundBy y j q n
-  unfolding aroundBy
-  around-same zero b w = b
-  around-same (suc n) b w = ap₂ _+ℤ_ (around-same n b (λ p h l. w p h (omega arith))) (w (q + suc n) (omega arith) (omega arith))
+  pub once-same : (n : ℕ) → backBy x j q ≡ backBy y j q → ((p : ℕ) → q < p → p ≤ q + n → inBy x j p ≡ inBy y j p) → onceAround x j q n ≡ onceAround y j q n
+  unfolding onceAround
+  once-same zero b w = b
+  once-same (suc n) b w = ap₂ _+ℤ_ (once-same n b (λ p h l. w p h (omega arith))) (w (q + suc n) (omega arith) (omega arith))
 
 -- as it is added up, move by move
 module _ (x : Items) (q : ℕ) {v : Counters} (n : ℕ) where
-  pub round-begun : n ≡ 0 → Sums v (λ j. pos 0 +ℤ backBy x j q) (0 + 1) → Sums v (λ j. aroundBy x j q n) (n + 1)
-  unfolding aroundBy
+  pub round-begun : n ≡ 0 → Sums v (λ j. pos 0 +ℤ backBy x j q) (0 + 1) → Sums v (λ j. onceAround x j q n) (n + 1)
+  unfolding onceAround
   round-begun e s =
-      subst (λ m. Sums v (λ j. aroundBy x j q m) (m + 1)) (sym e) (sums-same (λ j. pos 0 +ℤ backBy x j q) (λ j. backBy x j q) (λ j. +ℤ-idl (backBy x j q)) s)
+      subst (λ m. Sums v (λ j. onceAround x j q m) (m + 1)) (sym e) (sums-same (λ j. pos 0 +ℤ backBy x j q) (λ j. backBy x j q) (λ j. +ℤ-idl (backBy x j q)) s)
 
-  pub round-on : (m p : ℕ) → m ≡ suc n → p ≡ q + suc n → Sums v (λ j. aroundBy x j q n +ℤ inBy x j p) (n + 1 + 1) → Sums v (λ j. aroundBy x j q m) (m + 1)
-  unfolding aroundBy
+  pub round-on : (m p : ℕ) → m ≡ suc n → p ≡ q + suc n → Sums v (λ j. onceAround x j q n +ℤ inBy x j p) (n + 1 + 1) → Sums v (λ j. onceAround x j q m) (m + 1)
+  unfolding onceAround
   round-on m p e i s =
       let k : n + 1 + 1 ≡ suc n + 1 = omega arith in
-      subst (λ m. Sums v (λ j. aroundBy x j q m) (m + 1)) (sym e)
-      (subst₂ (λ p k. Sums v (λ j. aroundBy x j q n +ℤ inBy x j p) k) i k s)
+      subst (λ m. Sums v (λ j. onceAround x j q m) (m + 1)) (sym e)
+      (subst₂ (λ p k. Sums v (λ j. onceAround x j q n +ℤ inBy x j p) k) i k s)
 
 -- ---- no loop
 
 -- a place without a mark adds nothing
 pub no-drift : (x : Items) (j q : ℕ) → markAt (x .places) q ≡ mark.None → drift x j q ≡ pos 0
-unfolding drift aroundBy moveAt
+unfolding drift onceAround moveAt
 no-drift x j q e =
-    ap (λ m. aroundBy x j q (stretch m - 1)) e ∙ ap (λ m. update (moveAt (x .moves) (backOf m)) j) e ∙ at-left (pos 0) counters j
+    ap (λ m. onceAround x j q (stretch m - 1)) e ∙ ap (λ m. update (moveAt (x .moves) (backOf m)) j) e ∙ at-left (pos 0) counters j
 
 -- the drifts of nothing
 pub empty-drifts : driftsOf (itemsBy (λ k. [])) ≡ replicate (roomOf kind.Place) noValues

@@ -18,7 +18,7 @@ use Rattle.items.specs.Lists.{itemsBy, Items, roomOf, noItem, listOf, countsOf}
 use Rattle.counters.specs.declared.Counters.{Counters}
 use Rattle.counters.specs.Vectors.{vecOf}
 use Rattle.rules.specs.Rules.{endAt}
-use Rattle.meaning.specs.Drift.{aroundBy, drift}
+use Rattle.meaning.specs.Drift.{onceAround, drift}
 use Rattle.standing.specs.declared.Loops.{Loops}
 use Rattle.standing.specs.Standing.{noLoops, loopsAfter, loopsFrom, isLoopEnd}
 use Rattle.collector.specs.declared.Case.{Case}
@@ -82,7 +82,7 @@ loopsWith l n k r = cond (same k kind.Place) (loopsAfter l (n .places) (placeOf 
 
 -- what a round adds of a loop from place q to place n
 abbrev pub roundFrom : Items → ℕ → ℕ → Counters
-roundFrom x q n = vecOf (λ j. aroundBy x j q (n - q))
+roundFrom x q n = vecOf (λ j. onceAround x j q (n - q))
 
 -- the drifts after an item of kind k, where the loops after it are l, the arrays a, and n counts the items before it: the last place of a loop closes it
 abbrev pub driftsWith : List Counters → Loops → Items → Counts → Kind → List Counters

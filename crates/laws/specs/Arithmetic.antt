@@ -58,7 +58,7 @@ neg-rel (pos zero) = (refl, refl)
 neg-rel (pos (suc n)) = (refl, refl)
 neg-rel (negsuc n) = (refl, refl)
 
-pub left-comm : (a b c : ℤ) → a +ℤ (b +ℤ c) ≡ b +ℤ (a +ℤ c)
+left-comm : (a b c : ℤ) → a +ℤ (b +ℤ c) ≡ b +ℤ (a +ℤ c)
 left-comm a b c = eq-in (omega (arith, add-rel a (b +ℤ c), add-rel b c, add-rel b (a +ℤ c), add-rel a c))
 
 pub swap-sums : (a b c d : ℤ) → (a +ℤ b) +ℤ (c +ℤ d) ≡ (a +ℤ c) +ℤ (b +ℤ d)
@@ -66,14 +66,8 @@ swap-sums a b c d = simp (+ℤ-assoc, left-comm)
 
 -- ---- products
 
-pub once-more : (a d : ℤ) → a +ℤ pos 1 *ℤ d ≡ a +ℤ d
-once-more a d = ap (λ z. a +ℤ z) (sucℤ-*ℤ (pos 0) d ∙ ap (λ z. z +ℤ d) (zero-*ℤ d) ∙ +ℤ-idl d)
-
 minus-times : (d : ℤ) → negsuc 0 *ℤ d ≡ negℤ d
 minus-times d = predℤ-*ℤ (pos 0) d ∙ ap (λ z. z +ℤ negℤ d) (zero-*ℤ d) ∙ +ℤ-idl (negℤ d)
-
-pub once-less : (a d : ℤ) → a +ℤ negsuc 0 *ℤ d ≡ a -ℤ d
-once-less a d = ap (λ z. a +ℤ z) (minus-times d)
 
 pub times-sum : (a x y : ℤ) → a *ℤ (x +ℤ y) ≡ a *ℤ x +ℤ a *ℤ y
 times-sum (pos zero) x y = zero-*ℤ (x +ℤ y) ∙ sym (ap₂ _+ℤ_ (zero-*ℤ x) (zero-*ℤ y))

@@ -33,9 +33,6 @@ one-sided (negsuc n) = omega arith
 pub add-size : (a b : ℤ) → size (a +ℤ b) ≤ size a + size b
 add-size a b = omega (arith, add-rel a b, one-sided (a +ℤ b))
 
-pub sub-size : (a b : ℤ) → size (a -ℤ b) ≤ size a + size b
-sub-size a b = omega (arith, add-size a (negℤ b), neg-rel b)
-
 pub mul-size : (a b : ℤ) → size (a *ℤ b) ≡ size a * size b
 mul-size (pos m) (pos n) = omega arith
 mul-size (pos m) (negsuc n) = omega (arith, neg-rel (pos (m * suc n)))

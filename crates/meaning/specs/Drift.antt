@@ -16,10 +16,10 @@ abbrev pub backBy : Items → ℕ → ℕ → ℤ
 backBy x j p = update (moveBy x (record { place = p; back = true })) j
 
 -- what the back move into place q and the ways into the n places after it add
-unfoldable pub aroundBy : Items → ℕ → ℕ → ℕ → ℤ
-aroundBy x j q zero = backBy x j q
-aroundBy x j q (suc n) = aroundBy x j q n +ℤ inBy x j (q + suc n)
+unfoldable pub onceAround : Items → ℕ → ℕ → ℕ → ℤ
+onceAround x j q zero = backBy x j q
+onceAround x j q (suc n) = onceAround x j q n +ℤ inBy x j (q + suc n)
 
 -- the drift of the loop that place q begins: what a round of it adds to counter j
 unfoldable pub drift : Items → ℕ → ℕ → ℤ
-drift x j q = aroundBy x j q (stretch (markAt (x .places) q) - 1)
+drift x j q = onceAround x j q (stretch (markAt (x .places) q) - 1)

@@ -27,11 +27,11 @@ use Rattle.items.specs.declared.Place.{Place}
 use Rattle.items.specs.Lists.{Items, itemsBy, roomOf, noItem}
 use Rattle.rules.specs.Rules.{markAt, lengthOf, endAt}
 use Rattle.meaning.specs.Run.{Way, stretch, backOf, placeAt, moveNo, moveAt, moveBy, update}
-use Rattle.meaning.specs.Drift.{aroundBy, drift}
+use Rattle.meaning.specs.Drift.{onceAround, drift}
 use Rattle.standing.specs.Standing.{noLoops, loopsFrom, isLoopEnd}
 use Rattle.collector.specs.Cases.{filled, driftsOf, roundFrom}
 use Rattle.collector.specs.Sound.{LoopsApart}
-use Rattle.collector.proofs.Moves.{around-same, no-drift}
+use Rattle.collector.proofs.Moves.{once-same, no-drift}
 use Rattle.rules_laws.specs.Loops.{marked?, ends, ends-only, old-mark, new-mark, long, where?}
 
 -- ---- entry by entry
@@ -95,10 +95,10 @@ module _ (x : Items) (p : Place) where
   old-drift : (i j : ℕ) → i < length ps → (markAt ps i ≡ mark.None → ⊥) → endAt ps i ≤ length ps → drift x j i ≡ drift withPlace j i
   unfolding drift
   old-drift i j h m e =
-      around-same x withPlace j i (stretch (markAt ps i) - 1)
+      once-same x withPlace j i (stretch (markAt ps i) - 1)
       (sym (ap (λ (q : Place). update (moveAt (x .moves) (backOf (q .mark))) j) (old-place i h)))
       (λ k g l. sym (ap (λ (q : Place). update (moveAt (x .moves) (q .way)) j) (old-place k (omega (arith, stretch-is (markAt ps i) m)))))
-      ∙ sym (ap (λ (q : Place). aroundBy withPlace j i (stretch (q .mark) - 1)) (old-place i h))
+      ∙ sym (ap (λ (q : Place). onceAround withPlace j i (stretch (q .mark) - 1)) (old-place i h))
 
   module _ (apart : LoopsApart (x .places ++ (p ∷ []))) (whole : (p .mark ≡ mark.None → ⊥) → 0 < lengthOf (p .mark)) where
     abbrev n : ℕ
@@ -164,18 +164,18 @@ module _ (x : Items) (p : Place) where
         let r = ends (ps ++ (p ∷ [])) n (long ps p) e in
         let k : stretch (markAt (ps ++ (p ∷ [])) q) - 1 ≡ n - q = omega (arith, r .1, stretch-is (markAt (ps ++ (p ∷ [])) q) (r .0)) in
         entry-closed withPlace q (omega (arith, r .1, long ps p))
-        ∙ values-same (λ j. drift withPlace j q) (λ j. aroundBy (itemsBy (filled withPlace)) j q (n - q))
+        ∙ values-same (λ j. drift withPlace j q) (λ j. onceAround (itemsBy (filled withPlace)) j q (n - q))
         (λ j h.
-        ap (aroundBy withPlace j q) k
-        ∙ around-same withPlace (itemsBy (filled withPlace)) j q (n - q)
+        ap (onceAround withPlace j q) k
+        ∙ once-same withPlace (itemsBy (filled withPlace)) j q (n - q)
         (sym (ap (λ (m : Move). update m j) (by-filled withPlace (record { place = q; back = true }))))
         (λ i g l. sym (ap (λ (m : Move). update m j) (by-filled withPlace (record { place = i; back = false })))))
 
-    pub drifts-after : n < roomOf kind.Place →
-        cond (isLoopEnd (loopsFrom noLoops 0 (x .places ++ (p ∷ []))) (length (x .places)))
-        (set (driftsOf x) (loopsFrom noLoops 0 (x .places ++ (p ∷ [])) .first .0) (roundFrom (itemsBy (filled withPlace)) (loopsFrom noLoops 0 (x .places ++ (p ∷ [])) .first .0) (length (x .places))))
-        (driftsOf x)
-        ≡ driftsOf withPlace
+    pub drifts-after : length (x .places) < roomOf kind.Place →
+        let l = loopsFrom noLoops 0 (x .places ++ (p ∷ [])) in
+        let q = l .first .0 in
+        let n = length (x .places) in
+        cond (isLoopEnd l n) (set (driftsOf x) q (roundFrom (itemsBy (filled withPlace)) q n)) (driftsOf x) ≡ driftsOf withPlace
     unfolding driftsOf
     drifts-after h = go t refl
       where

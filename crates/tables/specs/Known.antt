@@ -65,7 +65,8 @@ module _ {c : Case} (s : Sound c) {t : Tables} (e : t ≡ tablesOf (itemsOf c)) 
   base-is d = values-at (length (itemsOf c .places)) (base (itemsOf c) (startOf (itemsOf c))) (ap (λ (t : Tables). t .bases) e) p d h
 
 -- the drift of its stretch, as the case keeps it with the first place, once the endless loop has closed
-pub drift-is : {c : Case} (s : Sound c) → Closed (itemsOf c) → {f : Firsts} (e : f ≡ firstsOf (itemsOf c .places)) (p : ℕ) (h : p < length (itemsOf c .places)) (d : Counters) →
+pub drift-is : {c : Case} (s : Sound c) → Closed (itemsOf c) →
+    {f : Firsts} (e : f ≡ firstsOf (itemsOf c .places)) (p : ℕ) (h : p < length (itemsOf c .places)) (d : Counters) →
     getD (c .drifts) (getD (f .at) p 0) d ≡ vecOf (λ j. drift (itemsOf c) j (firstOf (itemsOf c .places) p))
 drift-is {c} s k e p h d =
     let q = firstOf (itemsOf c .places) p in

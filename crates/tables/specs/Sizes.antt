@@ -17,7 +17,7 @@ use Rattle.items.specs.declared.Place.{Place}
 use Rattle.items.specs.Lists.{Items, roomOf, noItem}
 use Rattle.rules.specs.Rules.{markAt}
 use Rattle.meaning.specs.Run.{Way, stretch, moveNo, moveBy, update}
-use Rattle.meaning.specs.Drift.{inBy, aroundBy, drift}
+use Rattle.meaning.specs.Drift.{inBy, onceAround, drift}
 use Rattle.meaning.specs.Judged.{startOf}
 use Rattle.meaning_laws.specs.Facts.{mostStart, Facts}
 use Rattle.verdict.specs.Rounds.{firstOf, loopOf, isLast}
@@ -51,15 +51,15 @@ module _ {x : Items} (f : Facts x) where
     way-size : (w : Way) → size (update (moveBy x w) j) ≤ 9999
     way-size w = within-size 9999 _ (f .updates (moveNo (x .places) w) j)
 
-    around-size : (q n : ℕ) → size (aroundBy x j q n) ≤ (n + 1) * 9999
-    unfolding aroundBy
-    around-size q zero = omega (arith, way-size (record { place = q; back = true }))
-    around-size q (suc n) =
-        omega (arith, around-size q n, way-size (record { place = q + suc n; back = false }), add-size (aroundBy x j q n) (inBy x j (q + suc n)))
+    once-size : (q n : ℕ) → size (onceAround x j q n) ≤ (n + 1) * 9999
+    unfolding onceAround
+    once-size q zero = omega (arith, way-size (record { place = q; back = true }))
+    once-size q (suc n) =
+        omega (arith, once-size q n, way-size (record { place = q + suc n; back = false }), add-size (onceAround x j q n) (inBy x j (q + suc n)))
 
     pub drift-size : (q : ℕ) → q < roomOf kind.Place → size (drift x j q) ≤ 1300000
     unfolding drift
-    drift-size q h = omega (arith, end-within q h, around-size q (stretch (markAt (x .places) q) - 1))
+    drift-size q h = omega (arith, end-within q h, once-size q (stretch (markAt (x .places) q) - 1))
 
     -- what the rounds of the stretch of place p add
     pub times-size : (p : ℕ) → p < roomOf kind.Place →

@@ -13,10 +13,6 @@ use Rattle.verdict.specs.Labels.{worth, weightOf, labelOf}
 use Rattle.maxplus.specs.Bounds.{Light}
 use Rattle.untils.specs.Sums.{Mild}
 
-pub fits-size : (w : Width) (z : ℤ) → SFits w z → size z ≤ 2 ^ hbits w
-fits-size w (pos n) f = omega (arith, f .sfits)
-fits-size w (negsuc n) f = omega (arith, f .sfits)
-
 worth-size : (mark : ℕ → Bool) (t : Term) → Mild t → size (worth mark t) ≤ 999
 worth-size mark term.None h = omega arith
 worth-size mark (term.Some c s) h = cond-by (λ z. size z ≤ 999) (mark s) (λ e. within-size 999 c h) (λ e. omega arith)

@@ -18,7 +18,7 @@ use Rattle.items.specs.declared.Place.{Place}
 use Rattle.items.specs.Lists.{Items}
 use Rattle.rules.specs.Rules.{markAt, Closed}
 use Rattle.meaning.specs.Run.{Moment, Way, here, stretch, goesAgain, spot, wayTaken, moveBy, update, countersAt, Meets, guardAt}
-use Rattle.meaning.specs.Drift.{inBy, backBy, aroundBy, drift}
+use Rattle.meaning.specs.Drift.{inBy, backBy, onceAround, drift}
 use Rattle.meaning.specs.Judged.{waysOf, Test, Passes, Fails}
 use Rattle.meaning_laws.specs.Facts.{Laid, Facts}
 use Rattle.meaning_laws.specs.Stays.{next-by}
@@ -76,14 +76,14 @@ module _ (x : Items) (θ : Valuation) (j : ℕ) where
   base-out p h = rw (le-leb (end ps (firstOf ps p)) (suc p) h)
 
   -- from the first place of a stretch on, with its back move
-  along : (p : ℕ) → base x θ j p +ℤ backBy x j (firstOf ps p) ≡ base x θ j (firstOf ps p) +ℤ aroundBy x j (firstOf ps p) (p - firstOf ps p)
-  unfolding firstOf aroundBy
+  along : (p : ℕ) → base x θ j p +ℤ backBy x j (firstOf ps p) ≡ base x θ j (firstOf ps p) +ℤ onceAround x j (firstOf ps p) (p - firstOf ps p)
+  unfolding firstOf onceAround
   along zero = refl
   along (suc p) =
-      first-by ps (λ f. base x θ j (suc p) +ℤ backBy x j f ≡ base x θ j f +ℤ aroundBy x j f (suc p - f)) p
+      first-by ps (λ f. base x θ j (suc p) +ℤ backBy x j f ≡ base x θ j f +ℤ onceAround x j f (suc p - f)) p
       (λ h.
       let d : suc p - firstOf ps p ≡ suc (p - firstOf ps p) = omega (arith, first-le ps p) in
-      rw (d, aroundBy, add-suc, add-sub-of-le (first-le ps p), base-on p h, swap-last (base x θ j p), along p, +ℤ-assoc))
+      rw (d, onceAround, add-suc, add-sub-of-le (first-le ps p), base-on p h, swap-last (base x θ j p), along p, +ℤ-assoc))
       (λ h. rw sub-self)
 
   -- z is counter j at place p in round r: what it is a moment on

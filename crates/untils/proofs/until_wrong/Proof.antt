@@ -11,6 +11,7 @@ use lib.Signed.{leZ}
 use mir.Syntax.{w32, w64}
 use mir.Val.{SFits, toZ, ofZ}
 use mir.Facts.{toZ-ofZ, sfits-widen}
+use Rattle.laws.specs.Sizes.{fits-size}
 use Rattle.kinds.specs.declared.Kind.the-variants as kind
 use Rattle.items.specs.declared.LoopMark.{LoopMark}
 use Rattle.items.specs.Lists.{Items, roomOf, noItem}
@@ -33,7 +34,7 @@ use Rattle.tables.specs.Stretches.{first-below, mark-is, end-in}
 use borrow.Author.Needs.{needs, sfits-of}
 use borrow.Author.Tests.{not-true, not-false}
 use Rattle.untils.specs.Sums.{untilsOf}
-use Rattle.untils.specs.Light.{fits-size, mild-light}
+use Rattle.untils.specs.Light.{mild-light}
 use Rattle.untils.specs.Steps.{steps-are}
 use Rattle.untils.specs.Untils.{Shown, After, both-read, Turn, turn-read, turn-fits, turn-out, turn-on, turn-small, turn-step, shown-past, until-is}
 use Rattle.untils.proofs.until_wrong.Statement.{statement}

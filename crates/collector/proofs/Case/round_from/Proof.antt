@@ -13,9 +13,9 @@ use Rattle.items.specs.declared.Move.{Move}
 use Rattle.items.specs.declared.Place.{Place}
 use Rattle.items.specs.Lists.{Items, roomOf}
 use Rattle.meaning.specs.Run.{placeAt, backOf, moveAt, update}
-use Rattle.meaning.specs.Drift.{aroundBy}
+use Rattle.meaning.specs.Drift.{onceAround}
 use Rattle.collector.specs.Cases.{slotOf, arraysOf}
-use Rattle.collector.proofs.Moves.{Sums, sums-fit, sums-kept, sums-more, around-same, round-begun, round-on}
+use Rattle.collector.proofs.Moves.{Sums, sums-fit, sums-kept, sums-more, once-same, round-begun, round-on}
 use Rattle.collector.proofs.Case.round_from.Statement.{statement}
 use Rattle.collector.proofs.Case.round_from.Tie as tie
 
@@ -24,7 +24,7 @@ abbrev plan : List Move → List Place → Items
 plan ts ps = record { states = []; guards = []; moves = ts; sentences = []; places = ps }
 
 abbrev Inv-loop : tie.InvT-loop
-Inv-loop q n moves places v₀ back p₀ v p = (q ≤ p) × (p ≤ n) × Sums v (λ j. aroundBy (plan moves places) j q (p - q)) (p - q + 1)
+Inv-loop q n moves places v₀ back p₀ v p = (q ≤ p) × (p ≤ n) × Sums v (λ j. onceAround (plan moves places) j q (p - q)) (p - q + 1)
 
 abbrev μ-loop : tie.MeasureT-loop
 μ-loop q n moves places v₀ back p₀ v p = n - p
@@ -52,7 +52,7 @@ module _ (c : tie.After-slot Inv-loop μ-loop) where
   none : Sums (c .before .before .zero .result) (λ j. pos 0) 0
   none = record { are = ap (λ (l : List ℤ). record { at = l }) (c .before .before .zero .ensures); small = λ j h. omega arith }
 
-begun : (c : tie.Joined1 Inv-loop μ-loop) → let b = c .before in Sums (c .if1 .v) (λ j. aroundBy (plan (ts b) (ps b)) j (q b) (q b - q b)) (q b - q b + 1)
+begun : (c : tie.Joined1 Inv-loop μ-loop) → let b = c .before in Sums (c .if1 .v) (λ j. onceAround (plan (ts b) (ps b)) j (q b) (q b - q b)) (q b - q b + 1)
 begun c =
     let b = c .before in
     let e = b .slot .ensures ∙ ap slotOf (b .before .move-into .ensures) in
@@ -71,14 +71,14 @@ inside c = omega (arith, c .loop-test .taken, s (c .before .before .before) .pre
 gone-on : (c : tie.Joined2 Inv-loop μ-loop) →
     let b = c .before .before .before .before .before .before .before in
     let l = c .before .before .before .before .before .loop in
-    Sums (c .if2 .v) (λ j. aroundBy (plan (ts b) (ps b)) j (q b) (l .p + 1 - q b)) (l .p + 1 - q b + 1)
+    Sums (c .if2 .v) (λ j. onceAround (plan (ts b) (ps b)) j (q b) (l .p + 1 - q b)) (l .p + 1 - q b + 1)
 gone-on c =
     let a = c .before in
     let l = a .before .before .before .before .loop in
     let b = a .before .before .before .before .before .before in
     let e = a .slot2 .ensures ∙ ap slotOf (a .before .move-into2 .ensures) in
     let r = placeAt (ps b) (l .p + 1) .way in
-    let f : ℕ → ℤ = λ j. aroundBy (plan (ts b) (ps b)) j (q b) (l .p - q b) in
+    let f : ℕ → ℤ = λ j. onceAround (plan (ts b) (ps b)) j (q b) (l .p - q b) in
     let i = l .inv in
     round-on (plan (ts b) (ps b)) (q b) (l .p - q b) (l .p + 1 - q b) (l .p + 1) (omega (arith, i .0)) (omega (arith, i .0))
     (⊎-elim
@@ -157,8 +157,8 @@ returns c =
     let x = plan (ts b) (ps b) in
     let e : l .p ≡ s b .args .n = omega (arith, l .inv .1) in
     l .inv .2 .are
-    ∙ values-same (λ j. aroundBy x j (q b) (l .p - q b)) (λ j. aroundBy (arraysOf (s b .args .self)) j (q b) (s b .args .n - q b))
-    (λ j h. ap (λ n. aroundBy x j (q b) (n - q b)) e ∙ around-same x (arraysOf (s b .args .self)) j (q b) (s b .args .n - q b) refl (λ p g i. refl))
+    ∙ values-same (λ j. onceAround x j (q b) (l .p - q b)) (λ j. onceAround (arraysOf (s b .args .self)) j (q b) (s b .args .n - q b))
+    (λ j h. ap (λ n. onceAround x j (q b) (n - q b)) e ∙ once-same x (arraysOf (s b .args .self)) j (q b) (s b .args .n - q b) refl (λ p g i. refl))
 
 pub round-from-spec : {M : Type 1} → statement M
 round-from-spec =

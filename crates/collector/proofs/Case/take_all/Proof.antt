@@ -15,9 +15,7 @@ use Rattle.kinds.specs.declared.Kind.the-variants as kind
 use Rattle.kinds.specs.Kinds.{countOf}
 use Rattle.checks.specs.declared.Head.the-variants.{Of}
 use Rattle.checks.specs.Input.{headOf}
-use Rattle.items.specs.declared.Place.{Place}
 use Rattle.items.specs.Lists.{roomOf}
-use Rattle.standing.specs.Standing.{loopsAfter, isLoopEnd}
 use Rattle.answers.specs.Answers.{isTaken}
 use Rattle.standing.proofs.Room.{has-room}
 use Rattle.collector.specs.Taking.{refusalOf, collectedFrom, collectedOf}
@@ -100,15 +98,11 @@ stored-so c =
     (λ w.
     w .10
     ∙ rw (w .9 .ensures, w .5 .ensures, w .2 .ensures)
-    (sym (stored-place b (d .read .result) true
-    (sym (w .6 .ensures ∙ ap (λ l. isLoopEnd l (b .count .places)) (w .5 .ensures ∙ ap (λ (p : Place). loopsAfter (b .loops) (b .count .places) (p .mark)) (w .2 .ensures))) ∙ w .7 .taken))
-    ∙ of kind.Place (w .1 .given .1)))
+    (stored-place b (d .read .result) (w .2 .ensures) (w .5 .ensures) (w .6 .ensures) (w .7 .taken) ∙ of kind.Place (w .1 .given .1)))
     (λ w.
     w .8
     ∙ rw (w .5 .ensures, w .2 .ensures)
-    (sym (stored-place b (d .read .result) false
-    (sym (w .6 .ensures ∙ ap (λ l. isLoopEnd l (b .count .places)) (w .5 .ensures ∙ ap (λ (p : Place). loopsAfter (b .loops) (b .count .places) (p .mark)) (w .2 .ensures))) ∙ w .7 .left))
-    ∙ of kind.Place (w .1 .given .1)))))))
+    (stored-place b (d .read .result) (w .2 .ensures) (w .5 .ensures) (w .6 .ensures) (w .7 .left) ∙ of kind.Place (w .1 .given .1)))))))
     (c .match2 .came)
 
 loop-holds : tie.Need-loop-holds Inv-loop μ-loop
