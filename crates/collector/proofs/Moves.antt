@@ -1,31 +1,25 @@
--- The updates of the move that a reference names, added to a value for each counter; where it names none, nothing is added. And what a round of a
--- loop adds looks at the moves of its places alone. Assumes nothing.
-use mathlib.Core.Path.{_≡_, refl, sym, _∙_, ap, ap₂, subst, subst₂}
-use mathlib.Core.List.{List, []}
-use mathlib.Core.Bool.{cond}
-use Prim.Native.Nat.{ℕ, zero, suc, _+_, _-_, _*_, _≤_, _<_, _^_}
+-- The updates of the move that a reference names, added to a value for each counter; where it names none, nothing is added. Assumes nothing.
+use mathlib.Core.Path.{_≡_, refl, sym, _∙_, ap, subst, subst₂}
+use mathlib.Core.List.{List}
+use Prim.Native.Nat.{ℕ, suc, _+_, _-_, _*_, _≤_, _<_, _^_}
 use native.Mathlib.Omega.{arith}
 use lib.IntN.{ℤ, pos, _+ℤ_, +ℤ-idl, +ℤ-idr}
-use lib.Dec.{leb}
-use lib.ListN.{length, getD, replicate, List·getD-eq-default}
+use lib.ListN.{length, getD, List·getD-eq-default}
 use Rattle.laws.specs.Lists.{at-left, within}
 use Rattle.laws.specs.Sizes.{size, add-size}
-use Rattle.laws.specs.Tab.{tab-same, tab-one}
-use Rattle.laws.specs.Tests.{cond-by}
 use Rattle.kinds.specs.declared.Kind.the-variants as kind
 use Rattle.kinds.specs.Kinds.{counters}
 use Rattle.counters.specs.declared.Counters.{Counters}
-use Rattle.counters.specs.Vectors.{valueAt, vec, vecOf, noValues}
+use Rattle.counters.specs.Vectors.{valueAt, vec, vecOf}
 use Rattle.counters.specs.Values.{has, values-same}
 use Rattle.items.specs.declared.Ref.{Ref}
 use Rattle.items.specs.declared.Ref.the-variants as ref
 use Rattle.items.specs.declared.LoopMark.the-variants as mark
 use Rattle.items.specs.declared.Move.{Move}
-use Rattle.items.specs.Lists.{Items, itemsBy, roomOf, noItem}
-use Rattle.rules.specs.Rules.{markAt, endAt}
-use Rattle.meaning.specs.Run.{stretch, backOf, moveAt, update}
-use Rattle.meaning.specs.Drift.{inBy, backBy, onceAround, drift}
-use Rattle.collector.specs.Cases.{slotOf, driftsOf}
+use Rattle.items.specs.Lists.{Items, roomOf, noItem}
+use Rattle.meaning.specs.Run.{moveAt, update}
+use Rattle.meaning.specs.Drift.{inBy, backBy, onceAround}
+use Rattle.collector.specs.Cases.{slotOf}
 
 -- v has the values f j, each a sum of k numbers of 16 bits
 pub record Sums (v : Counters) (f : ℕ → ℤ) (k : ℕ) : Type 0 where
@@ -88,16 +82,7 @@ module _ (ts : List Move) (long : length ts ≡ roomOf kind.Move) {t : ℕ} (r :
           small = λ j i. omega (arith, s .small j i, add-size (f j) (update (moveAt ts r) j), l j i, ap (λ m. size (update m j)) (some-move d h));
         }
 
--- ---- a round
-
-module _ (x y : Items) (j q : ℕ) where
-  -- two rows of items whose ways from place q to place q + n add the same
-  pub once-same : (n : ℕ) → backBy x j q ≡ backBy y j q → ((p : ℕ) → q < p → p ≤ q + n → inBy x j p ≡ inBy y j p) → onceAround x j q n ≡ onceAround y j q n
-  unfolding onceAround
-  once-same zero b w = b
-  once-same (suc n) b w = ap₂ _+ℤ_ (once-same n b (λ p h l. w p h (omega arith))) (w (q + suc n) (omega arith) (omega arith))
-
--- as it is added up, move by move
+-- what a round adds, move by move
 module _ (x : Items) (q : ℕ) {v : Counters} (n : ℕ) where
   pub round-begun : n ≡ 0 → Sums v (λ j. pos 0 +ℤ backBy x j q) (0 + 1) → Sums v (λ j. onceAround x j q n) (n + 1)
   unfolding onceAround
@@ -110,21 +95,3 @@ module _ (x : Items) (q : ℕ) {v : Counters} (n : ℕ) where
       let k : n + 1 + 1 ≡ suc n + 1 = omega arith in
       subst (λ m. Sums v (λ j. onceAround x j q m) (m + 1)) (sym e)
       (subst₂ (λ p k. Sums v (λ j. onceAround x j q n +ℤ inBy x j p) k) i k s)
-
--- ---- no loop
-
--- a place without a mark adds nothing
-pub no-drift : (x : Items) (j q : ℕ) → markAt (x .places) q ≡ mark.None → drift x j q ≡ pos 0
-unfolding drift onceAround moveAt
-no-drift x j q e =
-    ap (λ m. onceAround x j q (stretch m - 1)) e ∙ ap (λ m. update (moveAt (x .moves) (backOf m)) j) e ∙ at-left (pos 0) counters j
-
--- the drifts of nothing
-pub empty-drifts : driftsOf (itemsBy (λ k. [])) ≡ replicate (roomOf kind.Place) noValues
-unfolding driftsOf
-empty-drifts =
-    let x = itemsBy (λ k. []) in
-    tab-same (λ q. vecOf (λ j. cond (leb (endAt [] q) 0) (drift x j q) (pos 0))) (λ q. noValues) (roomOf kind.Place) 0
-    (λ q h l. values-same (λ j. cond (leb (endAt [] q) 0) (drift x j q) (pos 0)) (λ j. pos 0)
-    (λ j i. cond-by (λ z. z ≡ pos 0) (leb (endAt [] q) 0) (λ e. no-drift x j q refl) (λ e. refl)))
-    ∙ tab-one noValues (roomOf kind.Place) 0

@@ -40,10 +40,13 @@ abbrev pub slotOf : Ref → ℕ
 slotOf ref.None = roomOf kind.Move
 slotOf (ref.At t) = t
 
--- the drift of each loop that has closed, with the loop's first place; 0 with every other place
+-- what is kept with place q: the drift of the loop that it begins, once that has closed, and else 0
+abbrev pub keptWith : Items → ℕ → Counters
+keptWith x q = vecOf (λ j. cond (leb (endAt (x .places) q) (length (x .places))) (drift x j q) (pos 0))
+
+-- with each place
 unfoldable pub driftsOf : Items → List Counters
-driftsOf x =
-    tab (roomOf kind.Place) 0 (λ q. vecOf (λ j. cond (leb (endAt (x .places) q) (length (x .places))) (drift x j q) (pos 0)))
+driftsOf x = tab (roomOf kind.Place) 0 (keptWith x)
 
 -- a case with these counts, loops, drifts and arrays
 abbrev pub caseBy : Counts → Loops → List Counters → Items → Case

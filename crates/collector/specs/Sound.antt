@@ -48,7 +48,7 @@ pub record LoopsApart (ps : List Place) : Type 0 where
 
 -- what every case has that records make
 pub record Sound (c : Case) : Type 0 where
-  -- it is its items: all else follows from them
+  -- it is its items: all else follows from them (the last loop; the drift of each loop that has closed, and 0 for one that hasn't)
   pub same : c ≡ caseOf (itemsOf c)
   -- they are within the room
   pub room : (k : Kind) → countOf (c .count) k ≤ roomOf k

@@ -6,7 +6,7 @@ use mathlib.Core.Bool.{Bool, true, false, cond}
 use Prim.Native.Nat.{ℕ, zero, suc, _+_, _≤_, _<_}
 use native.Mathlib.Omega.{arith}
 use lib.Dec.{leb, ltb, leb→le, le→leb, ltb→lt, nltb→le, nleb→lt}
-use lib.IntN.{ℤ, pos, negsuc, _+ℤ_, _-ℤ_, _*ℤ_, negℤ, subℕ, +ℤ-assoc, +ℤ-idl, sucℤ-*ℤ, predℤ-*ℤ, zero-*ℤ, negℤ-+ℤ}
+use lib.IntN.{ℤ, pos, negsuc, _+ℤ_, _*ℤ_, negℤ, subℕ, +ℤ-assoc, +ℤ-idl, sucℤ-*ℤ, predℤ-*ℤ, zero-*ℤ, negℤ-+ℤ}
 use lib.Signed.{_≤ℤ_}
 use Rattle.laws.specs.Order.{up, down}
 

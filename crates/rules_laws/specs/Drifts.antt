@@ -1,5 +1,5 @@
--- What the drifts kept beside the items say, entry by entry, and what one place more does to them: nothing but for the loop that it closes, whose
--- entry becomes what its moves add up to. Assumes nothing.
+-- What one place more does to the drifts that are kept beside the items: nothing but for the loop that it closes, with whose first place what its moves add
+-- up to is kept from then on. Assumes nothing.
 use mathlib.Core.Path.{_≡_, refl, _∙_, sym, ap}
 use mathlib.Core.Logic.{_⊎_, ⊎-elim}
 use mathlib.Core.List.{List, [], _∷_, _++_}
@@ -7,16 +7,10 @@ use mathlib.Core.Bool.{Bool, true, false, cond, true≢false}
 use Prim.Native.Nat.{ℕ, _+_, _-_, _≤_, _<_}
 use native.Mathlib.Decide.{decLt}
 use native.Mathlib.Omega.{arith}
-use lib.Dec.{leb}
-use lib.IntN.{pos}
 use lib.ListN.{length, set, replicate, List·getD-append, List·getD-eq-default}
-use borrow.Author.Tests.{le-leb, lt-leb}
 use Rattle.laws.specs.Lists.{at-front}
-use Rattle.laws.specs.Tab.{tab-same, tab-one, tab-set}
-use Rattle.laws.specs.Tests.{cond-by}
+use Rattle.laws.specs.Tab.{tab-same, tab-set}
 use Rattle.kinds.specs.declared.Kind.the-variants as kind
-use Rattle.counters.specs.declared.Counters.{Counters}
-use Rattle.counters.specs.Vectors.{vecOf, noValues}
 use Rattle.counters.specs.Values.{values-same}
 use Rattle.items.specs.declared.Ref.{Ref}
 use Rattle.items.specs.declared.Ref.the-variants as ref
@@ -29,35 +23,10 @@ use Rattle.rules.specs.Rules.{markAt, lengthOf, endAt}
 use Rattle.meaning.specs.Run.{Way, stretch, backOf, placeAt, moveNo, moveAt, moveBy, update}
 use Rattle.meaning.specs.Drift.{onceAround, drift}
 use Rattle.standing.specs.Standing.{noLoops, loopsFrom, isLoopEnd}
-use Rattle.collector.specs.Cases.{filled, driftsOf, roundFrom}
+use Rattle.collector.specs.Cases.{filled, keptWith, driftsOf, roundFrom}
 use Rattle.collector.specs.Sound.{LoopsApart}
-use Rattle.collector.proofs.Moves.{once-same, no-drift}
+use Rattle.collector.proofs.Drifts.{once-same, kept-none, kept-open, kept-closed}
 use Rattle.rules_laws.specs.Loops.{marked?, ends, ends-only, old-mark, new-mark, long, where?}
-
--- ---- entry by entry
-
-module _ (x : Items) (q : ℕ) where
-  -- the entry of place q
-  abbrev pub entryOf : Counters
-  entryOf = vecOf (λ j. cond (leb (endAt (x .places) q) (length (x .places))) (drift x j q) (pos 0))
-
-  pub entry-none : markAt (x .places) q ≡ mark.None → entryOf ≡ noValues
-  entry-none e =
-      values-same (λ j. cond (leb (endAt (x .places) q) (length (x .places))) (drift x j q) (pos 0)) (λ j. pos 0)
-      (λ j h. cond-by (λ z. z ≡ pos 0) (leb (endAt (x .places) q) (length (x .places))) (λ t. no-drift x j q e) (λ t. refl))
-
-  pub entry-open : length (x .places) < endAt (x .places) q → entryOf ≡ noValues
-  entry-open h = ap (λ t. vecOf (λ j. cond t (drift x j q) (pos 0))) (lt-leb (endAt (x .places) q) (length (x .places)) h)
-
-  pub entry-closed : endAt (x .places) q ≤ length (x .places) → entryOf ≡ vecOf (λ j. drift x j q)
-  entry-closed h = ap (λ t. vecOf (λ j. cond t (drift x j q) (pos 0))) (le-leb (endAt (x .places) q) (length (x .places)) h)
-
--- where there is no place, all are 0
-pub no-places : (x : Items) → x .places ≡ [] → driftsOf x ≡ replicate (roomOf kind.Place) noValues
-unfolding driftsOf
-no-places x e =
-    tab-same (entryOf x) (λ q. noValues) (roomOf kind.Place) 0 (λ q h l. entry-none x q (ap (λ ps. markAt ps q) e))
-    ∙ tab-one noValues (roomOf kind.Place) 0
 
 -- ---- the arrays of a case add what its items do
 
@@ -110,46 +79,46 @@ module _ (x : Items) (p : Place) where
     abbrev t : Bool
     t = isLoopEnd (loopsFrom noLoops 0 (ps ++ (p ∷ []))) n
 
-    -- no other entry changes
-    other : (i : ℕ) → (t ≡ true → i ≡ q → ⊥) → entryOf x i ≡ entryOf withPlace i
+    -- with no other place what is kept changes
+    other : (i : ℕ) → (t ≡ true → i ≡ q → ⊥) → keptWith x i ≡ keptWith withPlace i
     other i apt = ⊎-elim none some (marked? (markAt (ps ++ (p ∷ [])) i))
       where
-        none : markAt (ps ++ (p ∷ [])) i ≡ mark.None → entryOf x i ≡ entryOf withPlace i
+        none : markAt (ps ++ (p ∷ [])) i ≡ mark.None → keptWith x i ≡ keptWith withPlace i
         none e =
-            entry-none x i
+            kept-none x i
             (elim (decLt i n) [
               | yes h ↦ sym (old-mark ps p i h) ∙ e
               | no h ↦ ap (λ (a : Place). a .mark) (List·getD-eq-default ps (noItem kind.Place) {n = i} (omega arith))
             ])
-            ∙ sym (entry-none withPlace i e)
+            ∙ sym (kept-none withPlace i e)
 
         -- it doesn't end with the new place
         not-now : (markAt (ps ++ (p ∷ [])) i ≡ mark.None → ⊥) → i ≤ n → endAt (ps ++ (p ∷ [])) i ≡ n + 1 → ⊥
         not-now m h e = let r = ends-only (ps ++ (p ∷ [])) n (long ps p) apart i h m e in apt (r .0) (r .1)
 
-        some : (markAt (ps ++ (p ∷ [])) i ≡ mark.None → ⊥) → entryOf x i ≡ entryOf withPlace i
+        some : (markAt (ps ++ (p ∷ [])) i ≡ mark.None → ⊥) → keptWith x i ≡ keptWith withPlace i
         some m =
             ⊎-elim
             (λ h.
             let s = old-mark ps p i h in
             elim (decLt n (endAt ps i)) [
               | yes g ↦
-                  entry-open x i g
-                  ∙ sym (entry-open withPlace i
+                  kept-open x i g
+                  ∙ sym (kept-open withPlace i
                   (elim (decLt (n + 1) (endAt (ps ++ (p ∷ [])) i)) [
                     | yes k ↦ omega (arith, long ps p)
                     | no k ↦ absurd (not-now m (omega arith) (omega (arith, ap lengthOf s)))
                   ]))
               | no g ↦
-                  entry-closed x i (omega arith)
+                  kept-closed x i (omega arith)
                   ∙ values-same (λ j. drift x j i) (λ j. drift withPlace j i) (λ j k. old-drift i j h (λ e. m (s ∙ e)) (omega arith))
-                  ∙ sym (entry-closed withPlace i (omega (arith, ap lengthOf s, long ps p)))
+                  ∙ sym (kept-closed withPlace i (omega (arith, ap lengthOf s, long ps p)))
             ])
             (⊎-elim
             (λ e.
             let s = new-mark ps p i e in
-            entry-none x i (ap (λ (a : Place). a .mark) (List·getD-eq-default ps (noItem kind.Place) {n = i} (omega arith)))
-            ∙ sym (entry-open withPlace i
+            kept-none x i (ap (λ (a : Place). a .mark) (List·getD-eq-default ps (noItem kind.Place) {n = i} (omega arith)))
+            ∙ sym (kept-open withPlace i
             (elim (decLt (n + 1) (endAt (ps ++ (p ∷ [])) i)) [
               | yes k ↦ omega (arith, long ps p)
               | no k ↦ absurd (not-now m (omega arith) (omega (arith, ap lengthOf s, whole (λ z. m (s ∙ z)))))
@@ -157,13 +126,13 @@ module _ (x : Items) (p : Place) where
             (λ e. absurd (m e)))
             (where? ps p i)
 
-    -- the entry of the loop that it closes
-    closing : t ≡ true → entryOf withPlace q ≡ roundFrom (itemsBy (filled withPlace)) q n
+    -- the loop that it closes
+    closing : t ≡ true → keptWith withPlace q ≡ roundFrom (itemsBy (filled withPlace)) q n
     unfolding drift
     closing e =
         let r = ends (ps ++ (p ∷ [])) n (long ps p) e in
         let k : stretch (markAt (ps ++ (p ∷ [])) q) - 1 ≡ n - q = omega (arith, r .1, stretch-is (markAt (ps ++ (p ∷ [])) q) (r .0)) in
-        entry-closed withPlace q (omega (arith, r .1, long ps p))
+        kept-closed withPlace q (omega (arith, r .1, long ps p))
         ∙ values-same (λ j. drift withPlace j q) (λ j. onceAround (itemsBy (filled withPlace)) j q (n - q))
         (λ j h.
         ap (onceAround withPlace j q) k
@@ -182,7 +151,7 @@ module _ (x : Items) (p : Place) where
         go : (b : Bool) → t ≡ b → cond b (set (driftsOf x) q (roundFrom (itemsBy (filled withPlace)) q n)) (driftsOf x) ≡ driftsOf withPlace
         go true e =
             ap (λ v. set (driftsOf x) q v) (sym (closing e))
-            ∙ tab-set (entryOf x) (entryOf withPlace) (roomOf kind.Place) q
+            ∙ tab-set (keptWith x) (keptWith withPlace) (roomOf kind.Place) q
             (omega (arith, ends (ps ++ (p ∷ [])) n (long ps p) e .2))
             (λ i k d. other i (λ z s. d s))
-        go false e = tab-same (entryOf x) (entryOf withPlace) (roomOf kind.Place) 0 (λ i k l. other i (λ z s. true≢false (sym z ∙ e)))
+        go false e = tab-same (keptWith x) (keptWith withPlace) (roomOf kind.Place) 0 (λ i k l. other i (λ z s. true≢false (sym z ∙ e)))

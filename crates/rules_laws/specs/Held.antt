@@ -44,7 +44,8 @@ use Rattle.collector.specs.Taking.{takenOf, takenBy, takenAs}
 use Rattle.collector.specs.Sound.{Sound, Fit, There, LoopsApart}
 use Rattle.rules_laws.specs.Letters.{by-head}
 use Rattle.rules_laws.specs.Loops.{loops-snoc}
-use Rattle.rules_laws.specs.Drifts.{no-places, drifts-after}
+use Rattle.collector.proofs.Drifts.{no-places}
+use Rattle.rules_laws.specs.Drifts.{drifts-after}
 use Rattle.rules_laws.specs.Stages.{fault-none}
 use Rattle.rules_laws.specs.Tells.{tells-bad, tells-missing, tells-extra, tells-outside, tells-there}
 

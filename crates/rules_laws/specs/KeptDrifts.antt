@@ -16,25 +16,25 @@ use Rattle.items.specs.Lists.{roomOf}
 use Rattle.rules.specs.Rules.{endAt}
 use Rattle.meaning.specs.Drift.{drift}
 use Rattle.collector.specs.declared.Case.{Case}
-use Rattle.collector.specs.Cases.{itemsOf, driftsOf, emptyCase}
+use Rattle.collector.specs.Cases.{itemsOf, keptWith, driftsOf, emptyCase}
 use Rattle.collector.specs.Taking.{takenOf, collectedOf}
 use Rattle.collector.specs.Sound.{Sound}
-use Rattle.rules_laws.specs.Drifts.{entryOf, entry-open, entry-closed}
+use Rattle.collector.proofs.Drifts.{kept-open, kept-closed}
 use Rattle.rules_laws.specs.Held.{counted, drifts-are}
 use Rattle.rules_laws.specs.Theorems.{empty-sound, take-sound, sound}
 
 module _ {c : Case} (s : Sound c) (q : ℕ) (d : Counters) where
-  entry-is : q < roomOf kind.Place → getD (c .drifts) q d ≡ entryOf (itemsOf c) q
+  entry-is : q < roomOf kind.Place → getD (c .drifts) q d ≡ keptWith (itemsOf c) q
   unfolding driftsOf
-  entry-is h = ap (λ l. getD l q d) (drifts-are s) ∙ entry (entryOf (itemsOf c)) (roomOf kind.Place) q d h
+  entry-is h = ap (λ l. getD l q d) (drifts-are s) ∙ entry (keptWith (itemsOf c)) (roomOf kind.Place) q d h
 
   -- the entry of a loop that has closed, and of one that hasn't
   pub closed-entry : q < roomOf kind.Place → endAt (itemsOf c .places) q ≤ length (itemsOf c .places) →
       getD (c .drifts) q d ≡ vecOf (λ j. drift (itemsOf c) j q)
-  closed-entry h e = entry-is h ∙ entry-closed (itemsOf c) q e
+  closed-entry h e = entry-is h ∙ kept-closed (itemsOf c) q e
 
   open-entry : q < roomOf kind.Place → length (itemsOf c .places) < endAt (itemsOf c .places) q → getD (c .drifts) q d ≡ noValues
-  open-entry h e = entry-is h ∙ entry-open (itemsOf c) q e
+  open-entry h e = entry-is h ∙ kept-open (itemsOf c) q e
 
 -- ---- counter by counter
 

@@ -1,10 +1,7 @@
--- The size of a number that fits a width; terms in their range make light labels. Assumes nothing.
+-- Terms in their range make light labels. Assumes nothing.
 use mathlib.Core.Bool.{Bool}
-use Prim.Native.Nat.{ℕ, _≤_, _^_}
+use Prim.Native.Nat.{ℕ, _≤_}
 use native.Mathlib.Omega.{arith}
-use lib.IntN.{ℤ, pos, negsuc}
-use mir.Syntax.{Width}
-use mir.Val.{SFits, hbits}
 use Rattle.laws.specs.Sizes.{size, add-size, within-size}
 use Rattle.laws.specs.Tests.{cond-by}
 use Rattle.items.specs.declared.Term.{Term}

@@ -15,7 +15,8 @@ use Rattle.items.specs.Lists.{Items, roomOf}
 use Rattle.meaning.specs.Run.{placeAt, backOf, moveAt, update}
 use Rattle.meaning.specs.Drift.{onceAround}
 use Rattle.collector.specs.Cases.{slotOf, arraysOf}
-use Rattle.collector.proofs.Moves.{Sums, sums-fit, sums-kept, sums-more, once-same, round-begun, round-on}
+use Rattle.collector.proofs.Moves.{Sums, sums-fit, sums-kept, sums-more, round-begun, round-on}
+use Rattle.collector.proofs.Drifts.{once-same}
 use Rattle.collector.proofs.Case.round_from.Statement.{statement}
 use Rattle.collector.proofs.Case.round_from.Tie as tie
 
