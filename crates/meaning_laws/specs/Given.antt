@@ -197,7 +197,7 @@ module _ (n : Counts) where
 -- ---- the case
 
 -- a loop is as long as its mark says, and a lone place is one place
-no-shorter : (m : LoopMark) → lengthOf m ≤ stretch m
+pub no-shorter : (m : LoopMark) → lengthOf m ≤ stretch m
 no-shorter mark.None = omega arith
 no-shorter (mark.Counted l n b) = omega arith
 no-shorter (mark.Endless l b) = omega arith

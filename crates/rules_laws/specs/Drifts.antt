@@ -7,7 +7,7 @@ use mathlib.Core.Bool.{Bool, true, false, cond, true≢false}
 use Prim.Native.Nat.{ℕ, _+_, _-_, _≤_, _<_}
 use native.Mathlib.Decide.{decLt}
 use native.Mathlib.Omega.{arith}
-use lib.ListN.{length, set, replicate, List·getD-append, List·getD-eq-default}
+use lib.ListN.{length, set, replicate, List·getD-append}
 use Rattle.laws.specs.Lists.{at-front}
 use Rattle.laws.specs.Tab.{tab-same, tab-set}
 use Rattle.kinds.specs.declared.Kind.the-variants as kind
@@ -26,7 +26,7 @@ use Rattle.standing.specs.Standing.{noLoops, loopsFrom, isLoopEnd}
 use Rattle.collector.specs.Cases.{filled, keptWith, driftsOf, roundFrom}
 use Rattle.collector.specs.Sound.{LoopsApart}
 use Rattle.collector.proofs.Drifts.{once-same, kept-none, kept-open, kept-closed}
-use Rattle.rules_laws.specs.Loops.{marked?, ends, ends-only, old-mark, new-mark, long, where?}
+use Rattle.rules_laws.specs.Loops.{past-mark, marked?, ends, ends-only, old-mark, new-mark, long, where?}
 
 -- ---- the arrays of a case add what its items do
 
@@ -88,7 +88,7 @@ module _ (x : Items) (p : Place) where
             kept-none x i
             (elim (decLt i n) [
               | yes h ↦ sym (old-mark ps p i h) ∙ e
-              | no h ↦ ap (λ (a : Place). a .mark) (List·getD-eq-default ps (noItem kind.Place) {n = i} (omega arith))
+              | no h ↦ past-mark ps i (omega arith)
             ])
             ∙ sym (kept-none withPlace i e)
 
@@ -117,7 +117,7 @@ module _ (x : Items) (p : Place) where
             (⊎-elim
             (λ e.
             let s = new-mark ps p i e in
-            kept-none x i (ap (λ (a : Place). a .mark) (List·getD-eq-default ps (noItem kind.Place) {n = i} (omega arith)))
+            kept-none x i (past-mark ps i (omega arith))
             ∙ sym (kept-open withPlace i
             (elim (decLt (n + 1) (endAt (ps ++ (p ∷ [])) i)) [
               | yes k ↦ omega (arith, long ps p)

@@ -32,6 +32,13 @@ loops-snoc l n (q ∷ ps) p =
     let k = loopsAfter l n (q .mark) in
     loops-snoc k (n + 1) ps p ∙ ap (λ m. loopsAfter (loopsFrom k (n + 1) ps) m (p .mark)) e
 
+-- past the places there is no mark, so what has one is held
+pub past-mark : (ps : List Place) (i : ℕ) → length ps ≤ i → markAt ps i ≡ mark.None
+past-mark ps i h = ap (λ (p : Place). p .mark) (List·getD-eq-default ps (noItem kind.Place) {n = i} h)
+
+pub marked-held : (ps : List Place) (i : ℕ) → (markAt ps i ≡ mark.None → ⊥) → i < length ps
+marked-held ps i m = elim (decLt i (length ps)) [ yes h ↦ h | no h ↦ absurd (m (past-mark ps i (omega arith))) ]
+
 -- ---- the last loop
 
 -- no place has a mark, and the loops are those before them
@@ -164,13 +171,7 @@ module _ (x : Items) (a : LoopsApart (x .places)) where
 
 -- the endless loop begins at a place that is held
 begun : (x : Items) (c : Closed x) → c .first < length (x .places)
-begun x c =
-    elim (decLt (c .first) (length (x .places))) [
-      | yes h ↦ h
-      | no h ↦
-          absurd
-          (clash (c .endless) (ap (λ (p : Place). isEndless (p .mark)) (List·getD-eq-default (x .places) (noItem kind.Place) {n = c .first} (omega arith))))
-    ]
+begun x c = marked-held (x .places) (c .first) (λ e. clash (c .endless) (ap isEndless e))
 
 -- once the endless loop has closed, every loop has
 pub all-closed : (x : Items) → LoopsApart (x .places) → Closed x → (q : ℕ) → q < length (x .places) → endAt (x .places) q ≤ length (x .places)
@@ -243,7 +244,7 @@ module _ (ps : List Place) (p : Place) where
       elim (decLt i (length ps)) [
         | yes h ↦ inl h
         | no h ↦ elim (decLt (length ps) i) [
-          | yes g ↦ inr (inr (ap (λ (q : Place). q .mark) (List·getD-eq-default oneMorePlace (noItem kind.Place) (omega (arith, long)))))
+          | yes g ↦ inr (inr (past-mark oneMorePlace i (omega (arith, long))))
           | no g ↦ inr (inl (omega arith))
         ]
       ]

@@ -7,27 +7,20 @@ use lib.ListN.{length, getD}
 use Rattle.kinds.specs.declared.Kind.the-variants as kind
 use Rattle.counters.specs.declared.Counters.{Counters}
 use Rattle.counters.specs.Vectors.{vecOf}
-use Rattle.items.specs.declared.LoopMark.{LoopMark}
-use Rattle.items.specs.declared.LoopMark.the-variants as mark
 use Rattle.items.specs.declared.Place.{Place}
 use Rattle.items.specs.Lists.{roomOf, noItem}
 use Rattle.collector.specs.declared.Case.{Case}
 use Rattle.collector.specs.Cases.{itemsOf}
 use Rattle.collector.specs.Sound.{Sound}
-use Rattle.rules.specs.Rules.{endAt, lengthOf}
+use Rattle.rules.specs.Rules.{endAt}
 use Rattle.rules_laws.specs.KeptDrifts.{closed-entry}
 use Rattle.meaning.specs.Run.{stretch}
 use Rattle.meaning.specs.Drift.{drift}
-use Rattle.meaning_laws.specs.Given.{facts}
+use Rattle.meaning_laws.specs.Given.{facts, no-shorter}
 use Rattle.verdict.specs.Rounds.{firstOf, loopOf}
 use Rattle.verdict_laws.specs.Steps.{first-le}
 use Rattle.tables.specs.Reads.{at-places}
 use Rattle.tables.specs.Sizes.{end-within}
-
-length-le : (m : LoopMark) → lengthOf m ≤ stretch m
-length-le mark.None = omega arith
-length-le (mark.Counted l n b) = omega arith
-length-le (mark.Endless l b) = omega arith
 
 -- q is the first place of the stretch of place p, which there is room for
 module _ {c : Case} (s : Sound c) (p : ℕ) (h : p < roomOf kind.Place) {q : ℕ} (e : q ≡ firstOf (itemsOf c .places) p) where
@@ -48,7 +41,7 @@ module _ {c : Case} (s : Sound c) (p : ℕ) (h : p < roomOf kind.Place) {q : ℕ
   -- at the last place of the stretch it has, the endless loop too
   pub drift-at-end : (d : Counters) → p < length ps → firstOf ps p + stretch (loopOf ps p) ≤ p + 1 →
       getD (c .drifts) q d ≡ vecOf (λ j. drift (itemsOf c) j (firstOf ps p))
-  drift-at-end d l k = drift-kept d (omega (arith, length-le (loopOf ps p)))
+  drift-at-end d l k = drift-kept d (omega (arith, no-shorter (loopOf ps p)))
 
   -- n is the number of its places
   module _ {n : ℕ} (k : n ≡ stretch (getD (c .places) q (noItem kind.Place) .mark)) where

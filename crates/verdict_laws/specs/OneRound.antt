@@ -4,21 +4,20 @@ use mathlib.Core.Path.{_≡_, refl, sym, _∙_, ap}
 use mathlib.Core.List.{List}
 use mathlib.Core.Bool.{true, true≢false}
 use Prim.Native.Nat.{ℕ, suc, _+_, _-_, _≤_, _<_}
-use native.Mathlib.Decide.{decLt}
 use native.Mathlib.Numerals.{add-one}
 use native.Mathlib.Omega.{arith}
 use lib.IntN.{_+ℤ_}
-use lib.ListN.{length, List·getD-eq-default}
 use Rattle.kinds.specs.declared.Kind.the-variants as kind
 use Rattle.kinds.specs.Kinds.{counters}
 use Rattle.counters.specs.Sum.{Valuation}
 use Rattle.items.specs.declared.Place.{Place}
-use Rattle.items.specs.Lists.{Items, noItem}
+use Rattle.items.specs.Lists.{Items}
 use Rattle.rules.specs.Rules.{markAt, endAt}
 use Rattle.collector.specs.declared.Case.{Case}
 use Rattle.collector.specs.Cases.{itemsOf}
 use Rattle.collector.specs.Sound.{Sound}
 use Rattle.rules_laws.specs.Held.{counted}
+use Rattle.rules_laws.specs.Loops.{marked-held}
 use Rattle.rules_laws.specs.KeptDrifts.{keptAt, keeps-drifts}
 use Rattle.meaning.specs.Run.{Moment, Spot, here, stretch, goesAgain, spot, countersAt}
 use Rattle.meaning.specs.Drift.{drift}
@@ -46,10 +45,10 @@ module _ (x : Items) (laid : Laid (x .places)) where
 
   -- where its stretch is gone through once more, the run is at the same place, one round later, after as many moments as the stretch has places
   module _ (m : Moment) (again : goesAgain (markAt (x .places) (spot (x .places) m .first)) (spot (x .places) m .round) ≡ true) where
-    pub comes-again :
+    pub next-round :
         let s = spot (x .places) m in
         spot (x .places) (m + stretch (markAt (x .places) (s .first))) ≡ spotAt (s .first) (s .step) (suc (s .round))
-    comes-again =
+    next-round =
         let s = spot ps m in
         let q = s .first in
         let L = stretch (markAt ps q) in
@@ -63,19 +62,9 @@ module _ (x : Items) (laid : Laid (x .places)) where
         let q = spot (x .places) m .first in
         countersAt x θ (m + stretch (markAt (x .places) q)) j ≡ countersAt x θ m j +ℤ drift x j q
     one-round-later θ j =
-        let e = comes-again in
+        let e = next-round in
         later-visit θ j m (m + stretch (markAt ps (spot ps m .first)))
         (ap (λ (s : Spot). s .first) e) (ap (λ (s : Spot). s .step) e) (ap (λ (s : Spot). s .round) e)
-
--- a stretch that is gone through again has a mark, and so begins at a place that is held
-held-first : (ps : List Place) (q r : ℕ) → goesAgain (markAt ps q) r ≡ true → q < length ps
-held-first ps q r e =
-    elim (decLt q (length ps)) [
-      | yes h ↦ h
-      | no h ↦
-          absurd
-          (true≢false (sym e ∙ ap (λ (p : Place). goesAgain (p .mark) r) (List·getD-eq-default ps (noItem kind.Place) {n = q} (omega arith))))
-    ]
 
 -- what a case keeps with the first place of a loop that has closed is what a round of it adds
 pub kept-is-added : (c : Case) → Sound c → (θ : Valuation) (m : Moment) (j : ℕ) → j < counters →
@@ -86,6 +75,6 @@ pub kept-is-added : (c : Case) → Sound c → (θ : Valuation) (m : Moment) (j 
 kept-is-added c s θ m j h a e =
     let x = itemsOf c in
     let q = spot (x .places) m .first in
-    let n = held-first (x .places) q (spot (x .places) m .round) a in
+    let n = marked-held (x .places) q (λ z. true≢false (sym a ∙ ap (λ k. goesAgain k (spot (x .places) m .round)) z)) in
     one-round-later x (facts c s .laid) m a θ j
     ∙ ap (λ z. countersAt x θ m j +ℤ z) (sym (keeps-drifts c s .closed q j (omega (arith, counted c s kind.Place)) h e))
