@@ -44,7 +44,7 @@ slotOf (ref.At t) = t
 abbrev pub keptWith : Items → ℕ → Counters
 keptWith x q = vecOf (λ j. cond (leb (endAt (x .places) q) (length (x .places))) (drift x j q) (pos 0))
 
--- with each place
+-- what is kept with each place that there is room for
 unfoldable pub driftsOf : Items → List Counters
 driftsOf x = tab (roomOf kind.Place) 0 (keptWith x)
 

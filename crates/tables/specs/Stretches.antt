@@ -38,7 +38,7 @@ module _ {c : Case} (s : Sound c) (p : ℕ) (h : p < roomOf kind.Place) {q : ℕ
   pub drift-kept : (d : Counters) → endAt ps (firstOf ps p) ≤ length ps → getD (c .drifts) q d ≡ vecOf (λ j. drift (itemsOf c) j (firstOf ps p))
   drift-kept d k = ap (λ n. getD (c .drifts) n d) e ∙ closed-entry s (firstOf ps p) d (omega (arith, first-le ps p)) k
 
-  -- at the last place of the stretch it has, the endless loop too
+  -- at the last place of the stretch that is so, whether or not the endless loop has closed
   pub drift-at-end : (d : Counters) → p < length ps → firstOf ps p + stretch (loopOf ps p) ≤ p + 1 →
       getD (c .drifts) q d ≡ vecOf (λ j. drift (itemsOf c) j (firstOf ps p))
   drift-at-end d l k = drift-kept d (omega (arith, no-shorter (loopOf ps p)))
