@@ -7,3 +7,4 @@ pub mod Demands
 pub mod Starred
 pub mod Worked
 pub mod WorkedDrifts
+pub mod WorkedWeights

@@ -26,7 +26,7 @@ use Rattle.collector.specs.Taking.{takenAs, takenOf, collectedFrom, collectedOf
 use Rattle.meaning.specs.Run.{moveAt}
 use Rattle.meaning.specs.Truth.{bit}
 use Rattle.meaning.specs.Judged.{startOf}
-use Rattle.verdict.specs.Labels.{weightOf}
+use Rattle.verdict.specs.Labels.{gainOf}
 use Rattle.verdict.specs.Rounds.{firstOf, through}
 use Rattle.meaning.specs.Drift.{onceAround, drift}
 use Rattle.verdict.specs.Forward.{base}
@@ -104,5 +104,5 @@ starred =
     ∷ []
 
 pub starred-lines : answered starred ≡ expected starred
-unfolding starred rootGone withRecord twelveRounds bytesOf lowest contentFrom negative alone leading digits lastDigits numeral fieldAt recordOf sumOver kindIn lastBelow shapeOf ruleAt lowestFault rangeAnswer extraAnswer missingAnswer formAnswer fieldsAnswer endedHead headOf perCounter stateOf guardOf moveOf formOf sentenceOf markOf placeOf emptyCase wayAnswer markAnswer placeAnswer thereAnswer roomAnswer orderAnswer standing.recordAnswer takenAs takenOf cutFrom cut collectedFrom collectedOf loopsFrom moveAt sum bit weightOf from gather startOf firstOf through onceAround drift base greater step chain wholeSum power limit front formThrough firstNot verdict lineOf answerOf
+unfolding starred rootGone withRecord twelveRounds bytesOf lowest contentFrom negative alone leading digits lastDigits numeral fieldAt recordOf sumOver kindIn lastBelow shapeOf ruleAt lowestFault rangeAnswer extraAnswer missingAnswer formAnswer fieldsAnswer endedHead headOf perCounter stateOf guardOf moveOf formOf sentenceOf markOf placeOf emptyCase wayAnswer markAnswer placeAnswer thereAnswer roomAnswer orderAnswer standing.recordAnswer takenAs takenOf cutFrom cut collectedFrom collectedOf loopsFrom moveAt sum bit gainOf from gather startOf firstOf through onceAround drift base greater step chain wholeSum power limit front formThrough firstNot verdict lineOf answerOf
 starred-lines = refl

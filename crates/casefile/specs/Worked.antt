@@ -33,7 +33,7 @@ use Rattle.meaning.specs.Run.{Spot, Way, next, spot, wayTaken, moveAt, counters
 use Rattle.meaning.specs.Truth.{bit}
 use Rattle.meaning.specs.Judged.{Judged, startOf}
 use Rattle.meaning_laws.specs.Walk.{spotAt}
-use Rattle.verdict.specs.Labels.{weightOf}
+use Rattle.verdict.specs.Labels.{gainOf}
 use Rattle.verdict.specs.Rounds.{firstOf, through}
 use Rattle.meaning.specs.Drift.{onceAround, drift}
 use Rattle.verdict.specs.Forward.{base}
@@ -64,6 +64,20 @@ says bs =
 -- a file, and its three numbers
 abbrev pub Worked : Type 0
 Worked = List String × Told
+
+-- each file of a table is answered its numbers
+abbrev pub Answered : List Worked → Type 0
+Answered rows = map (λ (r : Worked). answerOf (bytesOf (r .0))) rows ≡ map (λ (r : Worked). r .1) rows
+
+-- the meaning says them of each file of a table
+abbrev pub Said : List Worked → Type 0
+Said = All (λ (r : Worked). FileSays (bytesOf (r .0)) (r .1))
+
+pub all-said : (rows : List Worked) → Answered rows → Said rows
+all-said [] e = none
+all-said (r ∷ rows) e =
+    let h : answerOf (bytesOf (r .0)) ≡ r .1 = cc in
+    also (subst (FileSays (bytesOf (r .0))) h (says (bytesOf (r .0)))) (all-said rows cc)
 
 -- document 01's sum with 4 rounds: place 0 in the loop, place 1 outside any loop, place 2 for ever; the last sentence is the until, marked nowhere
 unfoldable pub fourRounds : List String
@@ -195,20 +209,13 @@ worked =
     )
     ∷ []
 
-worked-answers : map (λ (r : Worked). answerOf (bytesOf (r .0))) worked ≡ map (λ (r : Worked). r .1) worked
-unfolding worked fourRounds rising looped both withRecord twelveRounds bytesOf lowest contentFrom negative alone leading digits fieldAt recordOf sumOver kindIn lastBelow shapeOf ruleAt lowestFault rangeAnswer extraAnswer missingAnswer formAnswer fieldsAnswer endedHead headOf perCounter stateOf guardOf moveOf formOf sentenceOf markOf placeOf emptyCase wayAnswer markAnswer placeAnswer thereAnswer roomAnswer orderAnswer standing.recordAnswer takenAs takenOf cutFrom cut collectedFrom collectedOf loopsFrom moveAt sum bit weightOf from gather startOf firstOf through onceAround drift base greater step chain wholeSum power limit front formThrough firstNot verdict answerOf
+worked-answers : Answered worked
+unfolding worked fourRounds rising looped both withRecord twelveRounds bytesOf lowest contentFrom negative alone leading digits fieldAt recordOf sumOver kindIn lastBelow shapeOf ruleAt lowestFault rangeAnswer extraAnswer missingAnswer formAnswer fieldsAnswer endedHead headOf perCounter stateOf guardOf moveOf formOf sentenceOf markOf placeOf emptyCase wayAnswer markAnswer placeAnswer thereAnswer roomAnswer orderAnswer standing.recordAnswer takenAs takenOf cutFrom cut collectedFrom collectedOf loopsFrom moveAt sum bit gainOf from gather startOf firstOf through onceAround drift base greater step chain wholeSum power limit front formThrough firstNot verdict answerOf
 worked-answers = refl
 
 -- the meaning says of each file what the table gives
-pub worked-said : All (λ (r : Worked). FileSays (bytesOf (r .0)) (r .1)) worked
-worked-said = each worked worked-answers
-  where
-    each : (rows : List Worked) → map (λ (r : Worked). answerOf (bytesOf (r .0))) rows ≡ map (λ (r : Worked). r .1) rows →
-        All (λ (r : Worked). FileSays (bytesOf (r .0)) (r .1)) rows
-    each [] e = none
-    each (r ∷ rows) e =
-        let h : answerOf (bytesOf (r .0)) ≡ r .1 = cc in
-        also (subst (FileSays (bytesOf (r .0))) h (says (bytesOf (r .0)))) (each rows cc)
+pub worked-said : Said worked
+worked-said = all-said worked worked-answers
 
 -- ---- the run of the example of twelve rounds
 

@@ -51,11 +51,11 @@ driftsOf x = tab (roomOf kind.Place) 0 (keptWith x)
 -- a case with these counts, loops, drifts and arrays
 abbrev pub caseBy : Counts → Loops → List Counters → Items → Case
 caseBy n l d a =
-    record { count = n; loops = l; drifts = d; states = a .states; guards = a .guards; moves = a .moves; sentences = a .sentences; places = a .places }
+    record { count = n; loops = l; drifts = d; states = a .states; weights = a .weights; guards = a .guards; moves = a .moves; sentences = a .sentences; places = a .places }
 
 -- the arrays of a case
 abbrev pub arraysOf : Case → Items
-arraysOf c = record { states = c .states; guards = c .guards; moves = c .moves; sentences = c .sentences; places = c .places }
+arraysOf c = record { states = c .states; weights = c .weights; guards = c .guards; moves = c .moves; sentences = c .sentences; places = c .places }
 
 -- the array of a kind: its items, and empty ones up to the room
 abbrev pub filled : Items → (k : Kind) → List (Item k)

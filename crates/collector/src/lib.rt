@@ -21,6 +21,7 @@ use items::Ref;
 use items::Room;
 use items::Sentence;
 use items::State;
+use items::Weights;
 use kinds::Counts;
 use kinds::Kind;
 use kinds::PerCounter;
@@ -36,6 +37,7 @@ pub struct Case {
     pub loops: Loops,
     pub drifts: [Counters; Case::PLACES],
     pub states: [State; Case::STATES],
+    pub weights: [Weights; Case::WEIGHTS],
     pub guards: [Guard; Case::GUARDS],
     pub moves: [Move; Case::MOVES],
     pub sentences: [Sentence; Case::SENTENCES],
@@ -128,6 +130,8 @@ impl Case {
     // How many items of each kind a case has room for.
     pub const STATES: usize = Room::STATES;
 
+    pub const WEIGHTS: usize = Room::WEIGHTS;
+
     pub const GUARDS: usize = Room::GUARDS;
 
     pub const MOVES: usize = Room::MOVES;
@@ -138,6 +142,7 @@ impl Case {
 
     // How many items in all.
     pub const ROOM: usize = Case::STATES
+        + Case::WEIGHTS
         + Case::GUARDS
         + Case::MOVES
         + Case::SENTENCES
@@ -155,6 +160,9 @@ impl Case {
         };
         let drifts = [counters::zero(); Case::PLACES];
         let states = [State { propositions: 0 }; Case::STATES];
+        let weights = [Weights {
+            at: [0i64; PerCounter::COUNT],
+        }; Case::WEIGHTS];
         let guards = [no_guard(); Case::GUARDS];
         let blank = Field {
             content: Content::Blank,
@@ -170,6 +178,7 @@ impl Case {
             loops: loops,
             drifts: drifts,
             states: states,
+            weights: weights,
             guards: guards,
             moves: moves,
             sentences: sentences,
@@ -229,6 +238,12 @@ impl Case {
                         let state = items::state_of(row);
                         self.states[n] = state;
                         self.count.states = n + 1;
+                    }
+                    Kind::Weights => {
+                        let n = self.count.weights;
+                        let weights = items::weights_of(row);
+                        self.weights[n] = weights;
+                        self.count.weights = n + 1;
                     }
                     Kind::Guard => {
                         let n = self.count.guards;

@@ -24,6 +24,7 @@ use Rattle.items.specs.declared.Form.the-variants as form
 use Rattle.items.specs.declared.LoopMark.{LoopMark}
 use Rattle.items.specs.declared.LoopMark.the-variants as mark
 use Rattle.items.specs.declared.State.{State}
+use Rattle.items.specs.declared.Weights.{Weights}
 use Rattle.items.specs.declared.Guard.{Guard}
 use Rattle.items.specs.declared.Move.{Move}
 use Rattle.items.specs.declared.Sentence.{Sentence}
@@ -32,6 +33,7 @@ use Rattle.items.specs.declared.Place.{Place}
 -- the items of a kind
 abbrev pub Item : Kind → Type 0
 Item kind.State = State
+Item kind.Weights = Weights
 Item kind.Guard = Guard
 Item kind.Move = Move
 Item kind.Sentence = Sentence
@@ -76,6 +78,10 @@ termOf (Bad i) s = term.None
 -- a state: its propositions
 unfoldable pub stateOf : List Field → State
 stateOf r = record { propositions = wordOf (at r 1) }
+
+-- starting weights: one for each counter
+unfoldable pub weightsOf : List Field → Weights
+weightsOf r = record { at = tab counters 0 (λ (j : ℕ). integerOf (at r (1 + j))) }
 
 -- a guard: a coefficient for each counter, then the bound
 unfoldable pub guardOf : List Field → Guard
@@ -128,6 +134,7 @@ placeOf r =
 -- the item that a record of this kind becomes
 abbrev pub itemOf : (k : Kind) → List Field → Item k
 itemOf kind.State r = stateOf r
+itemOf kind.Weights r = weightsOf r
 itemOf kind.Guard r = guardOf r
 itemOf kind.Move r = moveOf r
 itemOf kind.Sentence r = sentenceOf r
@@ -176,6 +183,7 @@ markFields (mark.Endless l b) = number l ∷ blank ∷ number b ∷ []
 -- the filled part of an item's row
 abbrev pub filledOf : (k : Kind) → Item k → List Field
 filledOf kind.State s = number (s .propositions) ∷ []
+filledOf kind.Weights w = map integer (w .at)
 filledOf kind.Guard g = map integer (g .coefficients .at) ++ (integer (g .bound) ∷ [])
 filledOf kind.Move m =
     number (m .from) ∷ number (m .to) ∷ (map integer (m .updates .at) ++ (reference (m .guard1) ∷ reference (m .guard2) ∷ []))

@@ -12,6 +12,7 @@ use Rattle.items.specs.declared.Move.{Move}
 use Rattle.items.specs.declared.Place.{Place}
 use Rattle.items.specs.declared.Sentence.{Sentence}
 use Rattle.items.specs.declared.State.{State}
+use Rattle.items.specs.declared.Weights.{Weights}
 use Rattle.items.specs.declared.Form.the-variants as form
 use Rattle.items.specs.declared.LoopMark.the-variants as mark
 use Rattle.items.specs.declared.Ref.the-variants as ref
@@ -20,6 +21,7 @@ use Rattle.items.specs.Items.{Item}
 -- how many items of a kind a case has room for
 abbrev pub roomOf : Kind → ℕ
 roomOf kind.State = 32
+roomOf kind.Weights = 1
 roomOf kind.Guard = 32
 roomOf kind.Move = 64
 roomOf kind.Sentence = 20
@@ -28,6 +30,7 @@ roomOf kind.Place = 64
 -- what stands where no item is held yet
 abbrev pub noItem : (k : Kind) → Item k
 noItem kind.State = record { propositions = 0 }
+noItem kind.Weights = record { at = replicate counters (pos 0) }
 noItem kind.Guard = record { coefficients = record { at = replicate counters (pos 0) }; bound = pos 0 }
 noItem kind.Move =
     record { from = 0; to = 0; updates = record { at = replicate counters (pos 0) }; guard1 = ref.None; guard2 = ref.None }
@@ -37,6 +40,7 @@ noItem kind.Place = record { state = 0; way = ref.None; marks = 0; mark = mark.N
 -- the items of each kind, in order
 pub record Items : Type 0 where
   pub states : List State
+  pub weights : List Weights
   pub guards : List Guard
   pub moves : List Move
   pub sentences : List Sentence
@@ -45,6 +49,7 @@ pub record Items : Type 0 where
 -- the items of a kind
 abbrev pub listOf : (k : Kind) → Items → List (Item k)
 listOf kind.State x = x .states
+listOf kind.Weights x = x .weights
 listOf kind.Guard x = x .guards
 listOf kind.Move x = x .moves
 listOf kind.Sentence x = x .sentences
@@ -53,7 +58,7 @@ listOf kind.Place x = x .places
 -- items, kind by kind
 abbrev pub itemsBy : ((k : Kind) → List (Item k)) → Items
 itemsBy f =
-    record { states = f kind.State; guards = f kind.Guard; moves = f kind.Move; sentences = f kind.Sentence; places = f kind.Place }
+    record { states = f kind.State; weights = f kind.Weights; guards = f kind.Guard; moves = f kind.Move; sentences = f kind.Sentence; places = f kind.Place }
 
 -- how many items of each kind there are
 abbrev pub countsOf : Items → Counts
@@ -61,4 +66,4 @@ countsOf x = countsBy (λ k. length (listOf k x))
 
 -- the items with other places
 abbrev pub withPlaces : Items → List Place → Items
-withPlaces x ps = record { states = x .states; guards = x .guards; moves = x .moves; sentences = x .sentences; places = ps }
+withPlaces x ps = record { states = x .states; weights = x .weights; guards = x .guards; moves = x .moves; sentences = x .sentences; places = ps }

@@ -3,7 +3,7 @@ ghost use mathlib.Core.Path.{_≡_};
 ghost use Prim.Native.Nat.{_+_, _≤_, _<_};
 ghost use Rattle.record.specs.Layout.{at, fields};
 ghost use Rattle.kinds.specs.Kinds.{counters};
-ghost use Rattle.items.specs.Items.{byteOf, integerOf, shortOf, perCounter, refOf, termOf, stateOf, guardOf, moveOf, formOf, sentenceOf, markOf, placeOf};
+ghost use Rattle.items.specs.Items.{byteOf, integerOf, shortOf, perCounter, refOf, termOf, stateOf, weightsOf, guardOf, moveOf, formOf, sentenceOf, markOf, placeOf};
 use kinds::PerCounter;
 use record::Content;
 use record::Record;
@@ -17,6 +17,11 @@ pub enum Ref {
 // A state: the propositions that hold in it, as a bit set.
 pub struct State {
     pub propositions: u16,
+}
+
+// Starting weights (the initial valuation): each counter at the start, as wide as counters are.
+pub struct Weights {
+    pub at: [i64; PerCounter::COUNT],
 }
 
 // A guard: the sum of coefficient times counter is at least the bound.
@@ -85,6 +90,8 @@ pub struct Room {}
 
 impl Room {
     pub const STATES: usize = 32;
+
+    pub const WEIGHTS: usize = 1;
 
     pub const GUARDS: usize = 32;
 
@@ -186,6 +193,19 @@ pub fn state_of(row: Record) -> State
     State {
         propositions: (kinds::natural_of(content_at(row, 1)) % 65536) as u16,
     }
+}
+
+// Starting weights: one for each counter.
+pub fn weights_of(row: Record) -> Weights
+    ensures { λ r. ⌜ r ≡ weightsOf (row .fields) ⌝ }
+{
+    let mut each = [0i64; PerCounter::COUNT];
+    let mut j: usize = 0;
+    while j < PerCounter::COUNT {
+        each[j] = integer_of(content_at(row, 1 + j)) as i64;
+        j = j + 1;
+    }
+    Weights { at: each }
 }
 
 // A guard: a coefficient for each counter, then the bound.

@@ -1,5 +1,5 @@
 -- Laws of the kinds: each has a letter of its own and stands in the order once, so that what is tested of the listed ones is true of every kind.
--- Only `named` and `count-by` go through the kinds by name. Assumes nothing.
+-- Only `each-kind` goes through the kinds by name. Assumes nothing.
 use mathlib.Core.Path.{_≡_, refl, _∙_, sym, ap, subst}
 use mathlib.Core.List.{List, [], _∷_, List·Memᴰ·head, List·Memᴰ·tail}
 use mathlib.Core.Bool.{Bool, true, false, not, cond}
@@ -14,22 +14,27 @@ use Rattle.laws.specs.Lowest.{lowest, lowest-none}
 use Rattle.laws.specs.Members.{Has, allOf, holds-all, sum-more}
 use Rattle.laws.specs.Tests.{Tells, cond-by}
 use Rattle.kinds.specs.declared.Kind.{Kind}
-use Rattle.kinds.specs.declared.Kind.the-variants.{State, Guard, Move, Sentence, Place}
+use Rattle.kinds.specs.declared.Kind.the-variants.{State, Weights, Guard, Move, Sentence, Place}
 use Rattle.kinds.specs.declared.Letter.the-variants.{Names}
 use Rattle.kinds.specs.declared.Counts.{Counts}
 use Rattle.kinds.specs.Kinds.{letterOf, allKinds, same, rankOf, kindIn, kindOf, countOf, countsBy, overKinds}
 use Rattle.kinds.specs.Last.{kindAt, lastBelow, lastRank}
+
+-- what is so of each kind, by its rank, is so of every kind
+pub each-kind : (P : Kind → Type 0) → P State → P Weights → P Guard → P Move → P Sentence → P Place → (k : Kind) → P k
+each-kind P s w g m f p State = s
+each-kind P s w g m f p Weights = w
+each-kind P s w g m f p Guard = g
+each-kind P s w g m f p Move = m
+each-kind P s w g m f p Sentence = f
+each-kind P s w g m f p Place = p
 
 -- ---- letters
 
 -- a letter names its kind
 named : (k : Kind) → kindOf (letterOf k) ≡ Names k
 unfolding kindIn
-named State = refl
-named Guard = refl
-named Move = refl
-named Sentence = refl
-named Place = refl
+named = each-kind (λ k. kindOf (letterOf k) ≡ Names k) refl refl refl refl refl refl
 
 module _ (b : ℕ) where
   pub kind-named : (k : Kind) → b ≡ letterOf k → kindOf b ≡ Names k
@@ -90,11 +95,7 @@ same-rank j k = go (same j k) refl
 -- ---- counts
 
 pub count-by : (f : Kind → ℕ) (k : Kind) → countOf (countsBy f) k ≡ f k
-count-by f State = refl
-count-by f Guard = refl
-count-by f Move = refl
-count-by f Sentence = refl
-count-by f Place = refl
+count-by f = each-kind (λ k. countOf (countsBy f) k ≡ f k) refl refl refl refl refl refl
 
 -- counts by f for kind k and by g for the others
 module _ (f g : Kind → ℕ) (k : Kind) where

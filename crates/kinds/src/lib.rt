@@ -8,9 +8,11 @@ ghost use Rattle.kinds.specs.Last.{lastRank};
 ghost use Rattle.kinds.specs.Contents.{flagOf, isNumber, natural};
 use record::Content;
 
-// The kinds of records: states, guards, moves (transitions), sentences (CLTL formulas) and places (states of the path schema).
+// The kinds of records: states, starting weights (the initial valuation), guards, moves (transitions), sentences (CLTL formulas) and places (states of
+// the path schema).
 pub enum Kind {
     State,
+    Weights,
     Guard,
     Move,
     Sentence,
@@ -26,6 +28,7 @@ pub enum Letter {
 // How many items of each kind a case holds.
 pub struct Counts {
     pub states: usize,
+    pub weights: usize,
     pub guards: usize,
     pub moves: usize,
     pub sentences: usize,
@@ -48,6 +51,7 @@ pub fn kind_of(letter: u8) -> Letter
 {
     match letter {
         b'S' => Letter::Names(Kind::State),
+        b'W' => Letter::Names(Kind::Weights),
         b'G' => Letter::Names(Kind::Guard),
         b'T' => Letter::Names(Kind::Move),
         b'F' => Letter::Names(Kind::Sentence),
@@ -63,10 +67,11 @@ impl Kind {
     {
         match self {
             Kind::State => 0,
-            Kind::Guard => 1,
-            Kind::Move => 2,
-            Kind::Sentence => 3,
-            Kind::Place => 4,
+            Kind::Weights => 1,
+            Kind::Guard => 2,
+            Kind::Move => 3,
+            Kind::Sentence => 4,
+            Kind::Place => 5,
         }
     }
 
@@ -85,6 +90,7 @@ impl Counts {
     {
         Counts {
             states: 0,
+            weights: 0,
             guards: 0,
             moves: 0,
             sentences: 0,
@@ -98,6 +104,7 @@ impl Counts {
     {
         match kind {
             Kind::State => self.states,
+            Kind::Weights => self.weights,
             Kind::Guard => self.guards,
             Kind::Move => self.moves,
             Kind::Sentence => self.sentences,
@@ -110,7 +117,7 @@ impl Counts {
         requires { ⌜ countsTotal self < 2 ^ 64 ⌝ }
         ensures { λ r. ⌜ r ≡ countsTotal self ⌝ }
     {
-        self.states + (self.guards + (self.moves + (self.sentences + self.places)))
+        self.states + (self.weights + (self.guards + (self.moves + (self.sentences + self.places))))
     }
 
     // The rank of the last kind of which an item is held.
@@ -118,7 +125,8 @@ impl Counts {
         ensures { λ r. ⌜ r ≡ lastRank self ⌝ }
     {
         let states = rank_if(self.states, Kind::State, 0);
-        let guards = rank_if(self.guards, Kind::Guard, states);
+        let weights = rank_if(self.weights, Kind::Weights, states);
+        let guards = rank_if(self.guards, Kind::Guard, weights);
         let moves = rank_if(self.moves, Kind::Move, guards);
         let sentences = rank_if(self.sentences, Kind::Sentence, moves);
         rank_if(self.places, Kind::Place, sentences)

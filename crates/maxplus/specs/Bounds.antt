@@ -11,13 +11,13 @@ use Rattle.verdict.specs.Labels.{Label}
 use Rattle.rounds.specs.Last.{mostRounds}
 use Rattle.maxplus.specs.declared.Round.{Round}
 
--- the greatest size of a weight: two coefficients of at most 999
-abbrev pub heaviest : ℕ
-heaviest = 1998
+-- the greatest size of a gain: two coefficients of at most 999
+abbrev pub mostGain : ℕ
+mostGain = 1998
 
--- no weight is greater
+-- no gain is greater
 pub record Light (l : ℕ → Label) : Type 0 where
-  pub each : (p : ℕ) → size (l p .weight) ≤ heaviest
+  pub each : (p : ℕ) → size (l p .gain) ≤ mostGain
 
 -- no more rounds than a plan can have
 abbrev pub FewRounds : Rounds → Type 0
@@ -33,11 +33,11 @@ small = 20000000000000000
 pub record Tame (s g : ℕ → ℤ) : Type 0 where
   pub stops : (i : ℕ) → i < roomOf kind.Place → size (s i) ≤ small
   pub goes : (i : ℕ) → i < roomOf kind.Place → size (g i) ≤ small
-  pub gains : (i : ℕ) → i < roomOf kind.Place → g i ≤ℤ pos heaviest
+  pub gains : (i : ℕ) → i < roomOf kind.Place → g i ≤ℤ pos mostGain
 
 -- n rounds, and then v, stay within bounds
 pub record Slight (r : Round) (n : ℕ) (v : ℤ) : Type 0 where
   pub few : n ≤ mostRounds
   pub within : size (r .within) ≤ (roomOf kind.Place + 1) * small
-  pub gain : r .sum ≤ℤ pos (roomOf kind.Place * heaviest)
+  pub gain : r .sum ≤ℤ pos (roomOf kind.Place * mostGain)
   pub after : size v ≤ small

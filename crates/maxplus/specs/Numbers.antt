@@ -37,7 +37,7 @@ abbrev pub stopOf : Label → ℤ
 stopOf l = choiceBy (l .goal) (pos 0)
 
 abbrev pub goOf : Label → ℤ
-goOf l = choiceBy (l .held) (l .weight)
+goOf l = choiceBy (l .held) (l .gain)
 
 -- the larger of two
 abbrev pub larger : ℤ → ℤ → ℤ

@@ -15,7 +15,7 @@ use Rattle.items.specs.Lists.{roomOf}
 use Rattle.rounds.specs.Last.{mostRounds}
 use Rattle.maxplus.specs.declared.Round.{Round}
 use Rattle.maxplus.specs.Numbers.{least, larger, withinBy, sumBy, roundBy}
-use Rattle.maxplus.specs.Bounds.{heaviest, small, Tame, Slight}
+use Rattle.maxplus.specs.Bounds.{mostGain, small, Tame, Slight}
 
 -- the larger of two goes no farther than both
 larger-size : (k : ℕ) (a b : ℤ) → size a ≤ k → size b ≤ k → size (larger a b) ≤ k
@@ -38,7 +38,7 @@ module _ {s g : ℕ → ℤ} (t : Tame s g) where
   sum-size p (suc n) h = omega (arith, t .goes p (omega arith), sum-size (suc p) n (omega arith), add-size (g p) (sumBy g (suc p) n))
 
   -- a sum may be far below 0, but not far above
-  sum-gain : (p n : ℕ) → p + n ≤ roomOf kind.Place → sumBy g p n ≤ℤ pos (n * heaviest)
+  sum-gain : (p n : ℕ) → p + n ≤ roomOf kind.Place → sumBy g p n ≤ℤ pos (n * mostGain)
   unfolding sumBy
   sum-gain p zero h = le-in (omega arith)
   sum-gain p (suc n) h =
@@ -56,7 +56,7 @@ module _ {s g : ℕ → ℤ} (t : Tame s g) where
 -- ---- n rounds that can be gone through, and then v
 
 -- a sum of such a round, from either side
-near : (z : ℤ) → z ≤ℤ pos (roomOf kind.Place * heaviest) → ltZ z least ≡ false → size z ≤ size least
+near : (z : ℤ) → z ≤ℤ pos (roomOf kind.Place * mostGain) → ltZ z least ≡ false → size z ≤ size least
 near (pos n) h e = omega (arith, le-out h)
 near (negsuc n) h e = omega (arith, lt-false (negsuc n) least e)
 

@@ -24,21 +24,21 @@ use Rattle.verdict.specs.Best.{Best, isReached, plus, greater, onward, step, ch
 use Rattle.rounds.specs.Last.{mostRounds}
 use Rattle.maxplus.specs.declared.Round.{Round}
 use Rattle.maxplus.specs.Numbers.{none, any, least, stopOf, goOf, larger, stepBy, withinBy, sumBy, roundBy, powerBy, limitBy, aroundBy}
-use Rattle.maxplus.specs.Bounds.{heaviest, Light, FewRounds, small, Tame}
+use Rattle.maxplus.specs.Bounds.{mostGain, Light, FewRounds, small, Tame}
 
 -- ---- how far
 
 -- the most that a round can add
 abbrev pub roundFar : ℕ
-roundFar = roomOf kind.Place * heaviest
+roundFar = roomOf kind.Place * mostGain
 
 -- the most that all rounds of a stretch, and a part of one round more, can add
 abbrev pub stretchFar : ℕ
 stretchFar = (mostRounds + 1) * roundFar
 
--- the most that a place can add: its own weight, and at the end of a stretch the stretch's rounds
+-- the most that a place can add: its own gain, and at the end of a stretch the stretch's rounds
 abbrev pub placeFar : ℕ
-placeFar = heaviest + stretchFar
+placeFar = mostGain + stretchFar
 
 -- the most that all places can add
 abbrev pub farthest : ℕ
@@ -98,11 +98,11 @@ near-larger {B} f x y (best.Sum z) best.Any m n =
 near-larger {B} f x y best.Any b m n = larger-by (λ u. Near B u best.Any) x y (λ e. omega (arith, le-out e, near-top y b f n)) (λ e. m)
 
 -- on from a place
-near-on : {B : ℕ} (l : Label) → size (l .weight) ≤ heaviest → B ≤ farthest → (x : ℤ) (b : Best) → Near B x b → Near (heaviest + B) (goOf l +ℤ x) (onward l b)
+near-on : {B : ℕ} (l : Label) → size (l .gain) ≤ mostGain → B ≤ farthest → (x : ℤ) (b : Best) → Near B x b → Near (mostGain + B) (goOf l +ℤ x) (onward l b)
 near-on {B} l h f x b n = go (l .held)
   where
-    go : (t : Bool) → Near (heaviest + B) (cond t (l .weight) none +ℤ x) (cond t (plus (l .weight) b) best.None)
-    go true = near-plus B (l .weight) x b h n
+    go : (t : Bool) → Near (mostGain + B) (cond t (l .gain) none +ℤ x) (cond t (plus (l .gain) b) best.None)
+    go true = near-plus B (l .gain) x b h n
     go false = omega (arith, add-rel none x, near-top x b f n)
 
 -- ---- shows
@@ -134,11 +134,11 @@ stop l = cond (l .goal) (best.Sum (pos 0)) best.None
 shows-stop : (B : ℕ) (l : Label) → Shows B (stopOf l) (stop l)
 shows-stop B l = shows-cond (l .goal) (record { near = (refl, omega arith); low = omega arith }) (shows-none B)
 
-pub shows-step : {B : ℕ} {x : ℤ} {b : Best} (l : Label) → size (l .weight) ≤ heaviest → Shows B x b → heaviest + B ≤ farthest
-    → Shows (heaviest + B) (stepBy (stopOf l) (goOf l) x) (step l b)
+pub shows-step : {B : ℕ} {x : ℤ} {b : Best} (l : Label) → size (l .gain) ≤ mostGain → Shows B x b → mostGain + B ≤ farthest
+    → Shows (mostGain + B) (stepBy (stopOf l) (goOf l) x) (step l b)
 unfolding step
 shows-step {B} {x} {b} l h s f =
-    let t = shows-stop (heaviest + B) l in
+    let t = shows-stop (mostGain + B) l in
     record {
       near = near-larger f (stopOf l) (goOf l +ℤ x) (stop l) (onward l b) (t .near) (near-on l h (omega arith) x b (s .near));
       low = larger-low (stopOf l) (goOf l +ℤ x) none (t .low);
@@ -171,7 +171,7 @@ ended-whole : (l : ℕ → Label) (p n : ℕ) → Finite (wholeSum l p n)
 unfolding wholeSum
 ended-whole l p zero = tt
 ended-whole l p (suc n) =
-    cond-by Finite (l p .held) (λ e. ended-plus (l p .weight) (wholeSum l (suc p) n) (ended-whole l (suc p) n)) (λ e. tt)
+    cond-by Finite (l p .held) (λ e. ended-plus (l p .gain) (wholeSum l (suc p) n) (ended-whole l (suc p) n)) (λ e. tt)
 
 -- s and g are the steps of the labels l at every place that there is room for
 pub record StepsAre (l : ℕ → Label) (s g : ℕ → ℤ) : Type 0 where
@@ -190,17 +190,17 @@ module _ {l : ℕ → Label} {s g : ℕ → ℤ} (light : Light l) (are : StepsA
       record {
         stops = λ i h. rw (are .stops i h) (cond-by (λ z. size z ≤ small) (l i .goal) (λ e. omega arith) (λ e. omega arith));
         goes = λ i h. rw (are .goes i h) (cond-by (λ z. size z ≤ small) (l i .held) (λ e. omega (arith, light .each i)) (λ e. omega arith));
-        gains = λ i h. rw (are .goes i h) (cond-by (λ z. z ≤ℤ pos heaviest) (l i .held) (λ e. le-in (omega (arith, light .each i))) (λ e. le-in (omega arith)));
+        gains = λ i h. rw (are .goes i h) (cond-by (λ z. z ≤ℤ pos mostGain) (l i .held) (λ e. le-in (omega (arith, light .each i))) (λ e. le-in (omega arith)));
       }
 
-  shows-within : (p n : ℕ) → p + n ≤ roomOf kind.Place → Shows (n * heaviest) (withinBy s g p n) (chain l p n best.None)
+  shows-within : (p n : ℕ) → p + n ≤ roomOf kind.Place → Shows (n * mostGain) (withinBy s g p n) (chain l p n best.None)
   unfolding withinBy chain
   shows-within p zero h = shows-none 0
   shows-within p (suc n) h =
       rw (are .stops p (omega arith), are .goes p (omega arith))
       (shows-wider (shows-step (l p) (light .each p) (shows-within (suc p) n (omega arith)) (omega arith)) (omega arith))
 
-  near-sum : (p n : ℕ) → p + n ≤ roomOf kind.Place → Near (n * heaviest) (sumBy g p n) (wholeSum l p n)
+  near-sum : (p n : ℕ) → p + n ≤ roomOf kind.Place → Near (n * mostGain) (sumBy g p n) (wholeSum l p n)
   unfolding sumBy wholeSum
   near-sum p zero h = (refl, omega arith)
   near-sum p (suc n) h =
@@ -211,7 +211,7 @@ module _ {l : ℕ → Label} {s g : ℕ → ℤ} (light : Light l) (are : StepsA
 
   shows-round : (p n : ℕ) → p + n ≤ roomOf kind.Place → ShowsRound (roundBy s g p n) (chain l p n best.None) (wholeSum l p n)
   shows-round p n h =
-      let k : n * heaviest ≤ roundFar = omega arith in
+      let k : n * mostGain ≤ roundFar = omega arith in
       record {
         within = shows-wider (shows-within p n h) k;
         sum = near-wider (sumBy g p n) (wholeSum l p n) k (near-sum p n h);

@@ -24,9 +24,9 @@ use Rattle.meaning.specs.Truth.{Trace, bit, True}
 
 -- ---- the case
 
--- the counters at the start of a run of the case: all are 0 (document 01)
+-- the counters at the start of a run of the case: its starting weights, and 0 where it has none
 unfoldable pub startOf : Items → Valuation
-startOf x j = pos 0
+startOf x j = getD (getD (x .weights) 0 (noItem kind.Weights) .at) j (pos 0)
 
 -- 24 doesn't apply: there is a sentence, and the endless loop has closed
 abbrev pub Finished : Items → Type 0

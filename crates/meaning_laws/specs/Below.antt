@@ -19,7 +19,7 @@ use Rattle.meaning.specs.Truth.{Trace, Until, countedTerms, TrueBelow, True}
 use Rattle.meaning.specs.Judged.{marked, TrueAt, traceOf}
 use Rattle.verdict.specs.Labels.{labelOf}
 use Rattle.meaning_laws.specs.Facts.{Refers}
-use Rattle.meaning_laws.specs.Counting.{Gets, until-gets, adds-weight}
+use Rattle.meaning_laws.specs.Counting.{Gets, until-gets, adds-gain}
 
 pub below : (gs : List Guard) (fs : List Sentence) (t : Trace) (n j : ℕ) (m : Moment) → j < n → TrueBelow gs fs t n j m ≡ True gs fs t j m
 unfolding TrueBelow
@@ -48,7 +48,7 @@ module _ (x : Items) (θ : Valuation) (i : ℕ) where
   until-labels a b z t u r h m =
       until-gets (SaysBelow x θ i a) (SaysBelow x θ i b) (countedTerms (SaysBelow x θ i) t ++ countedTerms (SaysBelow x θ i) u)
       (λ k. labelOf (marked x) a b t u (here (spot (x .places) k))) (told a (r .0)) (told b (r .1))
-      (λ k. adds-weight (SaysBelow x θ i) (λ s. marked x s (here (spot (x .places) k))) k i (λ s w. told s w k) t u (r .2) (r .3)) z m
+      (λ k. adds-gain (SaysBelow x θ i) (λ s. marked x s (here (spot (x .places) k))) k i (λ s w. told s w k) t u (r .2) (r .3)) z m
     where
       told : (j : ℕ) → j < i → (k : Moment) → (marked x j (here (spot (x .places) k)) ≡ true) ↔ SaysBelow x θ i j k
       told j w k = rw (says-below j w k) (h j w k)

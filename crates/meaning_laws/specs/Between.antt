@@ -13,7 +13,7 @@ use Rattle.counters.specs.Sum.{Valuation, sum}
 use Rattle.items.specs.declared.Place.{Place}
 use Rattle.meaning.specs.Run.{Moment, here, spot, wayTaken}
 use Rattle.verdict.specs.Labels.{Label}
-use Rattle.meaning_laws.specs.Counting.{totalWeight, total-same, Gets, gets-up, gets-down, gets-later}
+use Rattle.meaning_laws.specs.Counting.{totalGain, total-same, Gets, gets-up, gets-down, gets-later}
 use Rattle.meaning_laws.specs.Repeats.{Repeats}
 
 -- ---- more rounds
@@ -120,7 +120,7 @@ module _ (P : ℕ → List Place) (r : Repeats P) where
     gets-one-way b m h = ⊎-elim
         (λ s. inr (λ k. gets-down (labels k) (labels (suc k)) (r .start) (r .round) (early k) (late k) (subst (λ z. z ≤ℤ pos 0) (sym (each k)) s) b m h))
         (λ s. inl (λ k. gets-up (labels k) (labels (suc k)) (r .start) (r .round) (early k) (late k) (subst (λ z. pos 0 ≤ℤ z) (sym (each k)) (le-in (omega arith))) b m h))
-        (le-or (totalWeight (labels 0) (r .start) (r .round)) (pos 0))
+        (le-or (totalGain (labels 0) (r .start) (r .round)) (pos 0))
       where
         early : (k j : ℕ) → j < r .start + r .round → labels (suc k) j ≡ labels k j
         early k j g = ap ℓ (r .same-place k j (omega (arith, first-round k)))
@@ -128,6 +128,6 @@ module _ (P : ℕ → List Place) (r : Repeats P) where
         late : (k j : ℕ) → r .start ≤ j → labels (suc k) (j + r .round) ≡ labels k j
         late k j g = ap ℓ (r .later-place k j g)
 
-        each : (k : ℕ) → totalWeight (labels k) (r .start) (r .round) ≡ totalWeight (labels 0) (r .start) (r .round)
+        each : (k : ℕ) → totalGain (labels k) (r .start) (r .round) ≡ totalGain (labels 0) (r .start) (r .round)
         each zero = refl
         each (suc k) = total-same (labels k) (labels (suc k)) (r .start) (r .start) (r .round) (λ j g. early k (r .start + j) (omega arith)) ∙ each k

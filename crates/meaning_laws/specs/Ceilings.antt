@@ -1,5 +1,5 @@
--- Document 01's ceilings: before the endless loop and in its first round no counter passes 640,000,000,000 either way, and no guard sum
--- 3,000,000,000,000,000, beside what the counters are at the start. Assumes nothing.
+-- How far a run goes before the endless loop and in its first round: no counter is further than 640,000,000,000 from where it is at the start.
+-- Assumes nothing.
 use mathlib.Core.Path.{_≡_, refl}
 use mathlib.Core.Logic.{_⊎_, inl, inr, ⊎-elim}
 use mathlib.Core.List.{List}
@@ -96,11 +96,11 @@ module _ (x : Items) (f : Facts x) (θ : Valuation) (b : ℕ) (start : (j : ℕ)
     pub counter-ceiling : (j : ℕ) → Within (640000000000 + b) (countersAt x θ m j)
     counter-ceiling j = size-within (640000000000 + b) (countersAt x θ m j) (counter-small j)
 
-    pub sum-ceiling : (g : ℕ) → Within (3000000000000000 + kinds.counters * 999 * b) (sum (guardAt (x .guards) g .coefficients .at) (countersAt x θ m))
+    pub sum-ceiling : (g : ℕ) → Within (kinds.counters * (999 * (640000000000 + b))) (sum (guardAt (x .guards) g .coefficients .at) (countersAt x θ m))
     sum-ceiling g =
         let l : List ℤ = guardAt (x .guards) g .coefficients .at in
         let c = f .coefficients g in
-        size-within (3000000000000000 + kinds.counters * 999 * b) (sum l (countersAt x θ m))
+        size-within (kinds.counters * (999 * (640000000000 + b))) (sum l (countersAt x θ m))
         (omega (
           arith,
           sum-size l (countersAt x θ m),

@@ -15,6 +15,7 @@ use Rattle.items.specs.declared.Term.the-variants as term
 use Rattle.items.specs.declared.Form.{Form}
 use Rattle.items.specs.declared.Form.the-variants as form
 use Rattle.items.specs.declared.LoopMark.the-variants as mark
+use Rattle.items.specs.declared.Weights.{Weights}
 use Rattle.items.specs.declared.Place.{Place}
 use Rattle.items.specs.Lists.{Items, noItem, roomOf}
 use Rattle.rules.specs.Rules.{markAt, isEndless}
@@ -47,6 +48,10 @@ Refers i (form.Until a b z t u) = (a < i) × (b < i) × TermRefers i t × TermRe
 abbrev pub mostStart : ℕ
 mostStart = 10000000
 
+-- starting weights are one for each counter, none beyond that
+abbrev pub StartHas : Weights → Type 0
+StartHas w = (length (w .at) ≡ counters) × All (Within mostStart) (w .at)
+
 -- what is known of the items of a case with the invariant
 pub record Facts (x : Items) : Type 0 where
   pub laid : Laid (x .places)
@@ -61,7 +66,7 @@ pub record Facts (x : Items) : Type 0 where
   pub refers : (i : ℕ) → i < length (x .sentences) → Refers i (getD (x .sentences) i (noItem kind.Sentence) .form)
   -- numbers are in their ranges
   pub updates : (t : Ref) (j : ℕ) → Within 9999 (update (moveAt (x .moves) t) j)
-  pub starts : (j : ℕ) → Within mostStart (startOf x j)
+  pub weights : StartHas (getD (x .weights) 0 (noItem kind.Weights))
   pub coefficients : (g : ℕ) → (length (guardAt (x .guards) g .coefficients .at) ≤ counters) × All (Within 999) (guardAt (x .guards) g .coefficients .at)
 
 -- ---- other rounds in one counted loop

@@ -5,14 +5,14 @@ use mathlib.Core.Bool.{Bool, true, false}
 use Prim.Native.Nat.{ℕ, zero, suc, _+_, _≤_, _<_}
 use native.Mathlib.Omega.{arith}
 use native.Mathlib.Decide.{decLt}
-use lib.Dec.{ltb}
+use lib.Dec.{lit≤, ltb}
 use lib.IntN.{ℤ, pos, negℤ}
 use lib.Signed.{ltZ}
 use lib.ListN.{length, getD, replicate, drop, List·getD-eq-default}
 use borrow.Author.Tests.{ltb-false, leb-false}
 use Rattle.laws.specs.Order.{lt-false}
 use Rattle.laws.specs.Tests.{neither, tells-false}
-use Rattle.laws.specs.Arithmetic.{le-in}
+use Rattle.laws.specs.Arithmetic.{le-in, neg-rel}
 use Rattle.laws.specs.All.{All, none, also}
 use Rattle.laws.specs.Sizes.{Within}
 use Rattle.laws.specs.Members.{all-both}
@@ -31,7 +31,7 @@ use Rattle.table.specs.Sorts as sort
 use Rattle.table.specs.declared.Rule.{Rule}
 use Rattle.table.specs.declared.Rule.the-variants as rule
 use Rattle.table.specs.Sorts.{rangeOf, fromTo}
-use Rattle.table.specs.Table.{neededIf, guardRow, moveRow, inFilled, ruleAt, shapeOf}
+use Rattle.table.specs.Table.{neededIf, weightsRow, guardRow, moveRow, inFilled, ruleAt, shapeOf}
 use Rattle.items.specs.declared.Ref.{Ref}
 use Rattle.items.specs.declared.Ref.the-variants as ref
 use Rattle.items.specs.declared.Term.{Term}
@@ -40,11 +40,12 @@ use Rattle.items.specs.declared.Form.{Form}
 use Rattle.items.specs.declared.Form.the-variants as form
 use Rattle.items.specs.declared.LoopMark.{LoopMark}
 use Rattle.items.specs.declared.LoopMark.the-variants as mark
+use Rattle.items.specs.declared.Weights.{Weights}
 use Rattle.items.specs.declared.Guard.{Guard}
 use Rattle.items.specs.declared.Move.{Move}
 use Rattle.items.specs.declared.Sentence.{Sentence}
 use Rattle.items.specs.declared.Place.{Place}
-use Rattle.items.specs.Items.{Item, itemOf, rowOf, integer, reference, guardOf, moveOf, sentenceOf, placeOf, perCounter}
+use Rattle.items.specs.Items.{Item, itemOf, rowOf, integer, reference, weightsOf, guardOf, moveOf, sentenceOf, placeOf, perCounter}
 use Rattle.items.specs.Lists.{Items, listOf, countsOf, roomOf, noItem}
 use Rattle.checks.specs.Faults.{beyond, outside, atLeast, notThere}
 use Rattle.rules.specs.Rules.{markAt, lengthOf}
@@ -56,7 +57,7 @@ use Rattle.rules_laws.specs.Fields.{met}
 use Rattle.rules_laws.specs.Held.{counted, counts-are}
 use Rattle.meaning.specs.Run.{stretch, backOf, moveAt, named, guardsOf}
 use Rattle.meaning.specs.Judged.{startOf}
-use Rattle.meaning_laws.specs.Facts.{TermRefers, Refers, mostStart, Facts}
+use Rattle.meaning_laws.specs.Facts.{TermRefers, Refers, mostStart, StartHas, Facts}
 
 -- ---- lists
 
@@ -72,25 +73,30 @@ by-end P l d i f p =
 
 -- ---- a field
 
--- a field with the number z from -n to n
-abbrev pub FieldWithin : ℕ → ℤ → Type 0
-FieldWithin n z = beyond (fromTo (negℤ (pos n)) (pos n)) (Number z) ≡ false
+-- a field with the number z from -l to h
+abbrev pub FieldFrom : ℕ → ℕ → ℤ → Type 0
+FieldFrom l h z = beyond (fromTo (negℤ (pos l)) (pos h)) (Number z) ≡ false
 
-pub field-within : (n : ℕ) (z : ℤ) → FieldWithin n z → Within n z
-field-within n z e =
-    let b = neither (ltZ z (negℤ (pos n))) (ltZ (pos n) z) e in
-    (le-in (lt-false z (negℤ (pos n)) (b .0)), le-in (lt-false (pos n) z (b .1)))
+-- where neither end passes n
+field-from : (l h n : ℕ) → l ≤ n → h ≤ n → (z : ℤ) → FieldFrom l h z → Within n z
+field-from l h n p q z e =
+    let b = neither (ltZ z (negℤ (pos l))) (ltZ (pos h) z) e in (
+      le-in (omega (arith, lt-false z (negℤ (pos l)) (b .0), neg-rel (pos l), neg-rel (pos n))),
+      le-in (omega (arith, lt-false (pos h) z (b .1))),
+    )
 
--- numbers in a row whose rules are one sort's, from -n to n
-each-within : (n : ℕ) (s : Sort) → rangeOf s ≡ fromTo (negℤ (pos n)) (pos n) → (zs : List ℤ) (us : List Rule) (xs : List Field)
+pub field-within : (n : ℕ) (z : ℤ) → FieldFrom n n z → Within n z
+field-within n = field-from n n n (omega arith) (omega arith)
+
+-- numbers in a row whose rules are one sort's, of which every number is from -n to n
+each-within : (n : ℕ) (s : Sort) → ((z : ℤ) → beyond (rangeOf s) (Number z) ≡ false → Within n z) → (zs : List ℤ) (us : List Rule) (xs : List Field)
     → ((j : ℕ) → outside (getD (replicate (length zs) (rule.Needed s) ++ us) j rule.Blank) (at (map integer zs ++ xs) (suc j)) ≡ false)
     → All (Within n) zs
 each-within n s e [] us xs h = none
-each-within n s e (z ∷ zs) us xs h =
-    also (field-within n z (subst (λ r. beyond r (Number z) ≡ false) e (h 0))) (each-within n s e zs us xs (λ j. h (suc j)))
+each-within n s e (z ∷ zs) us xs h = also (e z (h 0)) (each-within n s e zs us xs (λ j. h (suc j)))
 
 -- numbers that are all 0
-zeros-within : (n k : ℕ) → FieldWithin n (pos 0) → All (Within n) (replicate k (pos 0))
+zeros-within : (n k : ℕ) → FieldFrom n n (pos 0) → All (Within n) (replicate k (pos 0))
 zeros-within n zero z = none
 zeros-within n (suc k) z = also (field-within n (pos 0) z) (zeros-within n k z)
 
@@ -125,6 +131,9 @@ MarkHas n (mark.Counted l r b) = (1 ≤ l) × (b < n) × (1 ≤ r) × (r ≤ 100
 MarkHas n (mark.Endless l b) = (1 ≤ l) × (b < n)
 
 -- what an item of each kind has that the meaning reads, where so many items are held
+abbrev WeightsHas : Counts → Weights → Type 0
+WeightsHas n = StartHas
+
 abbrev GuardHas : Counts → Guard → Type 0
 GuardHas n x = (length (x .coefficients .at) ≤ counters) × All (Within 999) (x .coefficients .at)
 
@@ -142,11 +151,19 @@ module _ (n : Counts) where
   abbrev Given : (k : Kind) → (Counts → Item k → Type 0) → Item k → Type 0
   Given k P x = Fit k (rowOf k x) → Held n k (rowOf k x) → P n x
 
+  weights-has : (r : List Field) → Given kind.Weights WeightsHas (weightsOf r)
+  unfolding rowOf ruleAt shapeOf weightsOf
+  weights-has r f t = (
+    refl,
+    each-within mostStart sort.Weight (field-from 999999 9999999 mostStart (lit≤ tt) (lit≤ tt)) (weightsOf r .at) (drop counters (weightsRow counters))
+        (drop counters (rowOf kind.Weights (weightsOf r))) (λ j. met f (suc j) .ranged),
+  )
+
   guard-has : (r : List Field) → Given kind.Guard GuardHas (guardOf r)
   unfolding rowOf ruleAt shapeOf guardOf perCounter
   guard-has r f t = (
     omega arith,
-    each-within 999 sort.Coefficient refl (guardOf r .coefficients .at) (drop counters (guardRow counters))
+    each-within 999 sort.Coefficient (field-within 999) (guardOf r .coefficients .at) (drop counters (guardRow counters))
         (drop counters (rowOf kind.Guard (guardOf r))) (λ j. met f (suc j) .ranged),
   )
 
@@ -157,7 +174,7 @@ module _ (n : Counts) where
       let g = names (n .guards) (m .guard1) (either n (isNumber (reference (m .guard2) .content)) kind.Guard _ (t (3 + counters))) in
       let h = names (n .guards) (m .guard2) (t (4 + counters)) in (
         all-both g h,
-        each-within 9999 sort.Update refl (m .updates .at)
+        each-within 9999 sort.Update (field-within 9999) (m .updates .at)
             (drop (2 + counters) (moveRow counters (inFilled (shape kind.Move (rowOf kind.Move m) .filled)))) (drop (2 + counters) (rowOf kind.Move m)) (λ j. met f (suc (suc (suc j))) .ranged),
       )
 
@@ -235,6 +252,9 @@ module _ (c : Case) (s : Sound c) where
       subst (λ m. P (reach m k i) y) (counts-are c s)
       (subst (Given n k P) (s .read k i l) (has n (rowOf k y)) (s .fit k i l) (λ f. tells-false _ (tells-there k _ f n) (s .there k i l f)))
 
+  weights-held : (i : ℕ) → i < length (x .weights) → WeightsHas (countsOf x) (getD (x .weights) i (noItem kind.Weights))
+  weights-held = held kind.Weights WeightsHas weights-has
+
   guard-held : (i : ℕ) → i < length (x .guards) → GuardHas (countsOf x) (getD (x .guards) i (noItem kind.Guard))
   guard-held = held kind.Guard GuardHas guard-has
 
@@ -255,7 +275,7 @@ module _ (c : Case) (s : Sound c) where
       by-end (λ (m : Move). All (Within 9999) (m .updates .at)) (x .moves) (noItem kind.Move) t (λ h. move-held t h .1) (zeros-within 9999 counters refl)
 
   pub facts : Facts (itemsOf c)
-  unfolding moveAt startOf
+  unfolding moveAt
   facts =
       record {
         laid =
@@ -278,8 +298,13 @@ module _ (c : Case) (s : Sound c) where
         backs = λ p t h. has-back (length (x .moves)) t (markAt (x .places) p) (marks p);
         guards = λ t h. move-held t h .0;
         refers = held kind.Sentence SentenceHas (λ n r f t. form-has n (sentenceOf r .form) t);
-        starts = λ j. field-within mostStart (pos 0) refl;
+        weights = by-end StartHas (x .weights) (noItem kind.Weights) 0 (weights-held 0) (refl, zeros-within mostStart counters refl);
         updates = λ t. all-at (Within 9999) _ (pos 0) (adds t) (field-within 9999 (pos 0) refl);
         coefficients =
             λ g. by-end (GuardHas (countsOf x)) (x .guards) (noItem kind.Guard) g (guard-held g) (omega arith, zeros-within 999 counters refl);
       }
+
+-- no counter is beyond that at the start
+pub starts : {x : Items} → Facts x → (j : ℕ) → Within mostStart (startOf x j)
+unfolding startOf
+starts f = all-at (Within mostStart) _ (pos 0) (f .weights .1) (field-within mostStart (pos 0) refl)

@@ -10,7 +10,7 @@ use native.Mathlib.Omega.{arith}
 use lib.IntN.{ℤ}
 use lib.Signed.{_≤ℤ_}
 use lib.ListN.{length, getD}
-use Rattle.laws.specs.Sizes.{size-within, Within}
+use Rattle.laws.specs.Sizes.{within-size, size-within, Within}
 use Rattle.record.specs.Layout.{recordLength, cut}
 use Rattle.record.specs.Spell.{IsSpelling}
 use Rattle.kinds.specs.declared.Kind.the-variants as kind
@@ -35,7 +35,8 @@ use Rattle.meaning.specs.Judged.{Finished, IsAccepted, Judged, marked, TrueAt, 
 use Rattle.meaning.specs.Paper.{Means}
 use Rattle.meaning.specs.Files.{FileAccepted, roundsAt}
 use Rattle.meaning.specs.Rounds.{withRounds}
-use Rattle.meaning_laws.specs.Given.{facts}
+use Rattle.meaning_laws.specs.Facts.{mostStart}
+use Rattle.meaning_laws.specs.Given.{facts, starts}
 use Rattle.meaning_laws.specs.Answers as answers
 use Rattle.meaning_laws.specs.Second as second
 use Rattle.meaning_laws.specs.Decided as truth
@@ -77,27 +78,27 @@ same-truth = answers.same-truth
 
 -- ---- document 01's ceilings
 
--- before the end of the endless loop's first round no counter passes 640,000,000,000 either way, and no sum of a guard 3,000,000,000,000,000,
--- beside what the start adds: b to a counter, where all are within b, and to a sum 999 * b for each counter
+-- from counters within b: before the end of the endless loop's first round no counter is further than 640,000,000,000 from there, and a guard's sum is at
+-- most 999 times as much for each counter
 pub counter-ceiling-from : (c : Case) → Sound c → (θ : Valuation) (b : ℕ) → ((j : ℕ) → Within b (θ j)) →
     (m : Moment) → Early (itemsOf c .places) m → (j : ℕ) → Within (640000000000 + b) (countersAt (itemsOf c) θ m j)
 counter-ceiling-from c s = ceilings.counter-ceiling (itemsOf c) (facts c s)
 
 pub sum-ceiling-from : (c : Case) → Sound c → (θ : Valuation) (b : ℕ) → ((j : ℕ) → Within b (θ j)) →
     (m : Moment) → Early (itemsOf c .places) m → (g : ℕ) →
-    Within (3000000000000000 + kinds.counters * 999 * b) (sum (guardAt (itemsOf c .guards) g .coefficients .at) (countersAt (itemsOf c) θ m))
+    Within (kinds.counters * (999 * (640000000000 + b))) (sum (guardAt (itemsOf c .guards) g .coefficients .at) (countersAt (itemsOf c) θ m))
 sum-ceiling-from c s = ceilings.sum-ceiling (itemsOf c) (facts c s)
 
--- as each case starts
+-- as each case starts: no counter passes 640,010,000,000 either way, and no sum of a guard 3,000,000,000,000,000
 pub counter-ceiling : (c : Case) → Sound c → (m : Moment) → Early (itemsOf c .places) m → (j : ℕ) →
-    Within 640000000000 (countersAt (itemsOf c) (startOf (itemsOf c)) m j)
-unfolding startOf
-counter-ceiling c s = counter-ceiling-from c s (startOf (itemsOf c)) 0 (λ j. size-within 0 (startOf (itemsOf c) j) (omega arith))
+    Within 640010000000 (countersAt (itemsOf c) (startOf (itemsOf c)) m j)
+counter-ceiling c s = counter-ceiling-from c s (startOf (itemsOf c)) mostStart (starts (facts c s))
 
 pub sum-ceiling : (c : Case) → Sound c → (m : Moment) → Early (itemsOf c .places) m → (g : ℕ) →
     Within 3000000000000000 (sum (guardAt (itemsOf c .guards) g .coefficients .at) (countersAt (itemsOf c) (startOf (itemsOf c)) m))
-unfolding startOf
-sum-ceiling c s = sum-ceiling-from c s (startOf (itemsOf c)) 0 (λ j. size-within 0 (startOf (itemsOf c) j) (omega arith))
+sum-ceiling c s m e g =
+    let w = sum-ceiling-from c s (startOf (itemsOf c)) mostStart (starts (facts c s)) m e g in
+    size-within 3000000000000000 _ (omega (arith, within-size _ _ w))
 
 -- ---- demand 3 of the meaning
 
@@ -106,6 +107,13 @@ pub between : (c : Case) → Sound c → (p l n back : ℕ) → p < length (item
     (i j k : ℕ) → 1 ≤ i → i ≤ j → j ≤ k → (θ : Valuation) →
     IsAccepted (withRounds (itemsOf c) p i) θ → IsAccepted (withRounds (itemsOf c) p k) θ → IsAccepted (withRounds (itemsOf c) p j) θ
 between c s = third.between (itemsOf c) (facts c s)
+
+-- each from its own start: other rounds leave the starting weights, so these are equal
+pub between-own : (c : Case) → Sound c → (p l n back : ℕ) → p < length (itemsOf c .places) → markAt (itemsOf c .places) p ≡ mark.Counted l n back →
+    (i j k : ℕ) → 1 ≤ i → i ≤ j → j ≤ k → let own : ℕ → Type 0 = λ m. IsAccepted (withRounds (itemsOf c) p m) (startOf (withRounds (itemsOf c) p m)) in
+    own i → own k → own j
+unfolding startOf
+between-own c s p l n back h e i j k a b d = between c s p l n back h e i j k a b d (startOf (itemsOf c))
 
 -- all records of a file are taken by the rules exactly where the collector takes them
 pub all-taken : (bs : List ℕ) → AllTaken (cut bs) ↔ (isTaken (collectedOf emptyCase bs .answer) ≡ true)

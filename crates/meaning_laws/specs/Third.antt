@@ -64,8 +64,8 @@ module _ (x : Items) (f : Facts x) (s l n back : ℕ) (held : s < length (x .pla
       ap₂ _+ℤ_ (counters-before h i j (omega arith)) (same-update m k (wayTaken (P m) i) (wayTaken (P k) i) j (ways-before P r h i g))
 
   -- what a round more adds
-  gain : Valuation
-  gain j = countersAt (X 1) θ (r .start + r .round) j +ℤ negℤ (countersAt (X 0) θ (r .start) j)
+  perRound : Valuation
+  perRound j = countersAt (X 1) θ (r .start + r .round) j +ℤ negℤ (countersAt (X 0) θ (r .start) j)
 
   from-first : (k : ℕ) → (d : ℕ) × MoreRounds (r .round) 0 k d
   from-first k = is-later (r .round) 0 k (omega arith)
@@ -76,9 +76,9 @@ module _ (x : Items) (f : Facts x) (s l n back : ℕ) (held : s < length (x .pla
   turned : (a b c : ℤ) → a +ℤ b +ℤ c ≡ a +ℤ c +ℤ b
   turned a b c = eq-in (omega (arith, add-rel (a +ℤ b) c, add-rel a b, add-rel (a +ℤ c) b, add-rel a c))
 
-  -- from its beginning on a round more adds the gain
-  counters-later : (k t j : ℕ) → countersAt (X (suc k)) θ (r .start + t + r .round) j ≡ countersAt (X k) θ (r .start + t) j +ℤ gain j
-  unfolding countersAt gain
+  -- from its beginning on a round more adds as much
+  counters-later : (k t j : ℕ) → countersAt (X (suc k)) θ (r .start + t + r .round) j ≡ countersAt (X k) θ (r .start + t) j +ℤ perRound j
+  unfolding countersAt perRound
   counters-later k zero j =
       let e : r .start + 0 ≡ r .start = omega arith in
       let g : r .start + 0 + r .round ≡ r .start + r .round = omega arith in
@@ -91,16 +91,16 @@ module _ (x : Items) (f : Facts x) (s l n back : ℕ) (held : s < length (x .pla
       let g : r .start + suc t + r .round ≡ suc (r .start + t + r .round) = omega arith in
       ap (λ i. countersAt (X (suc k)) θ i j) g
       ∙ ap₂ _+ℤ_ (counters-later k t j) (same-update (suc k) k (wayTaken (P (suc k)) (r .start + t + r .round)) (wayTaken (P k) (r .start + t)) j (r .later-way k (r .start + t) (omega arith)))
-      ∙ turned (countersAt (X k) θ (r .start + t) j) (gain j) (update (moveBy (X k) (wayTaken (P k) (r .start + t))) j)
-      ∙ ap (λ z. z +ℤ gain j) (sym (ap (λ i. countersAt (X k) θ i j) e))
+      ∙ turned (countersAt (X k) θ (r .start + t) j) (perRound j) (update (moveBy (X k) (wayTaken (P k) (r .start + t))) j)
+      ∙ ap (λ z. z +ℤ perRound j) (sym (ap (λ i. countersAt (X k) θ i j) e))
 
   -- after the loop is left
-  counters-after : (k t j : ℕ) → countersAt (X (suc k)) θ (left P r (suc k) + t) j ≡ countersAt (X k) θ (left P r k + t) j +ℤ gain j
+  counters-after : (k t j : ℕ) → countersAt (X (suc k)) θ (left P r (suc k) + t) j ≡ countersAt (X k) θ (left P r k + t) j +ℤ perRound j
   counters-after k t j =
       let i : ℕ = left P r k - r .start + t in
       let e : left P r k + t ≡ r .start + i = omega (arith, first-round P r k) in
       let g : left P r (suc k) + t ≡ r .start + i + r .round = omega (arith, first-round P r k, next-left P r k) in
-      ap (λ z. countersAt (X (suc k)) θ z j) g ∙ counters-later k i j ∙ ap (λ z. countersAt (X k) θ z j +ℤ gain j) (sym e)
+      ap (λ z. countersAt (X (suc k)) θ z j) g ∙ counters-later k i j ∙ ap (λ z. countersAt (X k) θ z j +ℤ perRound j) (sym e)
 
   -- a round more never hurts a guard after the loop, or never helps it
   met-one-way : (g : Guard) (t : ℕ) → OneWay (λ k. Meets g (countersAt (X k) θ (left P r k + t)))
@@ -113,10 +113,10 @@ module _ (x : Items) (f : Facts x) (s l n back : ℕ) (held : s < length (x .pla
       σ k = sum (g .coefficients .at) (countersAt (X k) θ (left P r k + t))
 
       δ : ℤ
-      δ = sum (g .coefficients .at) gain
+      δ = sum (g .coefficients .at) perRound
 
       grows : (k : ℕ) → σ (suc k) ≡ σ k +ℤ δ
-      grows k = sum-plus (g .coefficients .at) (countersAt (X k) θ (left P r k + t)) (countersAt (X (suc k)) θ (left P r (suc k) + t)) gain (counters-after k t)
+      grows k = sum-plus (g .coefficients .at) (countersAt (X k) θ (left P r k + t)) (countersAt (X (suc k)) θ (left P r (suc k) + t)) perRound (counters-after k t)
 
   meets-same : (g : Guard) (η κ : Valuation) → ((j : ℕ) → κ j ≡ η j) → Meets g κ ≡ Meets g η
   meets-same g η κ h = ap (λ z. g .bound ≤ℤ z) (sum-same (g .coefficients .at) η κ h)

@@ -18,7 +18,7 @@ use Rattle.items.specs.declared.LoopMark.{LoopMark}
 use Rattle.items.specs.declared.LoopMark.the-variants as mark
 use Rattle.items.specs.declared.Move.{Move}
 use Rattle.items.specs.declared.Place.{Place}
-use Rattle.items.specs.Lists.{Items, itemsBy, roomOf, noItem}
+use Rattle.items.specs.Lists.{Items, itemsBy, roomOf, noItem, withPlaces}
 use Rattle.rules.specs.Rules.{markAt, lengthOf, endAt}
 use Rattle.meaning.specs.Run.{Way, stretch, backOf, placeAt, moveNo, moveAt, moveBy, update}
 use Rattle.meaning.specs.Drift.{onceAround, drift}
@@ -54,7 +54,7 @@ module _ (x : Items) (p : Place) where
 
   -- the items with the place
   abbrev pub withPlace : Items
-  withPlace = record { states = x .states; guards = x .guards; moves = x .moves; sentences = x .sentences; places = x .places ++ (p ∷ []) }
+  withPlace = withPlaces x (ps ++ (p ∷ []))
 
   -- a place that was held
   old-place : (i : ℕ) → i < length ps → placeAt (ps ++ (p ∷ [])) i ≡ placeAt ps i

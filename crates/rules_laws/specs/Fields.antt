@@ -30,7 +30,7 @@ use Rattle.table.specs.declared.Rule.the-variants as rule
 use Rattle.table.specs.Table as table
 use Rattle.table.specs.Sorts.{rangeOf}
 use Rattle.table.specs.Table.{neededIf, inFilled, shapeOf, ruleAt}
-use Rattle.items.specs.Items.{itemOf, rowOf, byteOf, integerOf, shortOf, perCounter, refOf, termOf, markOf, stateOf, guardOf, moveOf, formOf, sentenceOf, placeOf, integer, number, blank, reference, termFields, markFields}
+use Rattle.items.specs.Items.{itemOf, rowOf, byteOf, integerOf, shortOf, perCounter, refOf, termOf, markOf, stateOf, weightsOf, guardOf, moveOf, formOf, sentenceOf, placeOf, integer, number, blank, reference, termFields, markFields}
 use Rattle.checks.specs.Faults.{misspelled, missing, extra, outside, beyond}
 use Rattle.collector.specs.Sound.{shape, Fit}
 use Rattle.rules_laws.specs.Tells.{tells-bad, tells-missing, tells-extra, tells-outside}
@@ -204,6 +204,14 @@ module _ (g : ℕ → Content) where
   unfolding ruleAt shapeOf rowOf stateOf
   state-again c f = λ i. cut-again sort.Propositions 65535 (refl, refl) c (met f 1) i ∷ rest-again f 1 (lit≤ tt) i
 
+  weights-again : (c : Content) → Again kind.Weights (row c)
+  unfolding ruleAt shapeOf rowOf weightsOf
+  weights-again c f =
+      let r = row c in
+      let h : Content → Field = λ c. integer (integerOf c) in
+      let p = each-again sort.Weight h (integer-again sort.Weight) (take counters r) (drop counters (rulesIn kind.Weights r)) (drop counters r) (λ j. met f (suc j)) in
+      λ i. p i ++ rest-again f counters (lit≤ tt) i
+
   guard-again : (c : Content) → Again kind.Guard (row c)
   unfolding ruleAt shapeOf rowOf guardOf perCounter
   guard-again c f =
@@ -272,6 +280,7 @@ module _ (g : ℕ → Content) where
 
   again : (k : Kind) (c : Content) → Again k (row c)
   again kind.State = state-again
+  again kind.Weights = weights-again
   again kind.Guard = guard-again
   again kind.Move = move-again
   again kind.Sentence = sentence-again

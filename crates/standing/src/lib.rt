@@ -32,6 +32,7 @@ fn room_of(kind: Kind) -> usize
 {
     match kind {
         Kind::State => Room::STATES,
+        Kind::Weights => Room::WEIGHTS,
         Kind::Guard => Room::GUARDS,
         Kind::Move => Room::MOVES,
         Kind::Sentence => Room::SENTENCES,

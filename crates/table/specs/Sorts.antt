@@ -20,6 +20,10 @@ Coefficient = Within (fromTo (negℤ (pos 999)) (pos 999))
 abbrev pub Bound : Sort
 Bound = Within (fromTo (negℤ (pos 999999)) (pos 9999999))
 
+-- a counter at the start: any number that a field can spell
+abbrev pub Weight : Sort
+Weight = Bound
+
 -- what a move adds to a counter
 abbrev pub Update : Sort
 Update = Within (fromTo (negℤ (pos 9999)) (pos 9999))

@@ -10,12 +10,12 @@ use Rattle.laws.specs.Tab.{tab}
 use Rattle.record.specs.declared.Record.{Record}
 use Rattle.record.specs.Layout.{fields, at}
 use Rattle.kinds.specs.declared.Kind.{Kind}
-use Rattle.kinds.specs.declared.Kind.the-variants.{State, Guard, Move, Sentence, Place}
+use Rattle.kinds.specs.declared.Kind.the-variants.{State, Weights, Guard, Move, Sentence, Place}
 use Rattle.kinds.specs.Kinds.{counters}
 use Rattle.kinds.specs.Contents.{flagOf, natural}
 use Rattle.table.specs.declared.Sort.{Sort}
 use Rattle.table.specs.declared.Sort.the-variants.{Marks, Reference}
-use Rattle.table.specs.Sorts.{Propositions, Coefficient, Bound, Update, Form, Proposition, LoopLength, Rounds}
+use Rattle.table.specs.Sorts.{Propositions, Weight, Coefficient, Bound, Update, Form, Proposition, LoopLength, Rounds}
 use Rattle.table.specs.declared.Rule.{Rule}
 use Rattle.table.specs.declared.Rule.the-variants as rule
 use Rattle.table.specs.declared.Rule.the-variants.{Needed, Optional}
@@ -59,6 +59,10 @@ partsOf f x = getD (formRows x) f []
 abbrev pub stateRow : List Rule
 stateRow = Needed Propositions ∷ []
 
+-- starting weights, with n counters: one for each
+abbrev pub weightsRow : ℕ → List Rule
+weightsRow n = replicate n (Needed Weight)
+
 -- a guard, with n counters: a coefficient for each, then the bound
 abbrev pub guardRow : ℕ → List Rule
 guardRow n = replicate n (Needed Coefficient) ++ (Needed Bound ∷ [])
@@ -87,6 +91,7 @@ placeRow x =
 -- the row of a kind and a form
 abbrev pub rulesOf : ℕ → Kind → ℕ → (ℕ → Bool) → List Rule
 rulesOf n State f x = stateRow
+rulesOf n Weights f x = weightsRow n
 rulesOf n Guard f x = guardRow n
 rulesOf n Move f x = moveRow n x
 rulesOf n Sentence f x = sentenceRow f x

@@ -8,7 +8,7 @@ ghost use Rattle.laws.specs.Lists.{nth};
 ghost use Rattle.kinds.specs.Kinds.{counters};
 ghost use Rattle.table.specs.declared.Rule.the-variants as rule;
 ghost use Rattle.table.specs.Sorts.{Form, rangeOf};
-ghost use Rattle.table.specs.Table.{neededIf, shapeOf, ruleAt, stateRow, guardRow, moveRow, sentenceRow, placeRow, inFilled};
+ghost use Rattle.table.specs.Table.{neededIf, shapeOf, ruleAt, stateRow, weightsRow, guardRow, moveRow, sentenceRow, placeRow, inFilled};
 use kinds::Kind;
 use kinds::PerCounter;
 use record::Record;
@@ -49,6 +49,8 @@ impl Sort {
         low: -999999,
         high: 9999999,
     });
+
+    pub const WEIGHT: Sort = Sort::BOUND;
 
     pub const UPDATE: Sort = Sort::Within(Range {
         low: -9999,
@@ -148,6 +150,18 @@ fn state_rule(k: usize) -> Rule
 {
     if k == 1 {
         Rule::Needed(Sort::PROPOSITIONS)
+    } else {
+        Rule::Blank
+    }
+}
+
+// Starting weights: one for each counter.
+fn weights_rule(k: usize) -> Rule
+    requires { ⌜ 0 < k ⌝ }
+    ensures { λ r. ⌜ r ≡ nth (weightsRow counters) k rule.Blank ⌝ }
+{
+    if k <= PerCounter::COUNT {
+        Rule::Needed(Sort::WEIGHT)
     } else {
         Rule::Blank
     }
@@ -269,6 +283,7 @@ pub fn rule_at(shape: Shape, k: usize) -> Rule
     let filled = shape.filled;
     match kind {
         Kind::State => state_rule(k),
+        Kind::Weights => weights_rule(k),
         Kind::Guard => guard_rule(k),
         Kind::Move => move_rule(filled, k),
         Kind::Sentence => sentence_rule(shape.form, filled, k),

@@ -8,20 +8,22 @@ use lib.ListN.{length, getD, take}
 use Rattle.laws.specs.Lists.{at-front, within}
 use Rattle.kinds.specs.declared.Kind.{Kind}
 use Rattle.kinds.specs.declared.Kind.the-variants as kind
+use Rattle.items.specs.declared.Weights.{Weights}
 use Rattle.items.specs.declared.Guard.{Guard}
 use Rattle.items.specs.declared.Move.{Move}
 use Rattle.items.specs.declared.Place.{Place}
 use Rattle.items.specs.Items.{Item}
 use Rattle.items.specs.Lists.{Items, listOf, roomOf, noItem}
+use Rattle.items.specs.Laws.{movesAndPlaces}
 use Rattle.collector.specs.declared.Case.{Case}
 use Rattle.collector.specs.Cases.{arraysOf, itemsOf}
 use Rattle.collector.specs.Sound.{Sound}
 use Rattle.rules_laws.specs.Held.{padded, long}
 use Rattle.meaning.specs.Run.{placeAt, guardAt}
 
--- the first n of these places and no other items: what is said of places alone is said of it, where the case is no longer at hand
+-- the first n of these places and no other items
 abbrev pub placesOnly : List Place → ℕ → Items
-placesOnly ps n = record { states = []; guards = []; moves = []; sentences = []; places = take n ps }
+placesOnly ps n = movesAndPlaces [] (take n ps)
 
 module _ {c : Case} (s : Sound c) where
   at-items : (k : Kind) (i : ℕ) → getD (listOf k (arraysOf c)) i (noItem k) ≡ getD (listOf k (itemsOf c)) i (noItem k)
@@ -34,6 +36,9 @@ module _ {c : Case} (s : Sound c) where
 
   pub at-states : (i : ℕ) → getD (c .states) i (noItem kind.State) ≡ getD (itemsOf c .states) i (noItem kind.State)
   at-states = at-items kind.State
+
+  pub at-weights : (d : Weights) → getD (c .weights) 0 d ≡ getD (itemsOf c .weights) 0 (noItem kind.Weights)
+  at-weights d = in-items kind.Weights 0 d (omega arith)
 
   pub at-guards : (g : ℕ) (d : Guard) → g < roomOf kind.Guard → getD (c .guards) g d ≡ guardAt (itemsOf c .guards) g
   at-guards = in-items kind.Guard

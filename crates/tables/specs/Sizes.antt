@@ -20,6 +20,7 @@ use Rattle.meaning.specs.Run.{Way, stretch, moveNo, moveBy, update}
 use Rattle.meaning.specs.Drift.{inBy, onceAround, drift}
 use Rattle.meaning.specs.Judged.{startOf}
 use Rattle.meaning_laws.specs.Facts.{mostStart, Facts}
+use Rattle.meaning_laws.specs.Given.{starts}
 use Rattle.verdict.specs.Rounds.{firstOf, loopOf, isLast}
 use Rattle.verdict.specs.Forward.{repeats, roundsAdd, base}
 use Rattle.verdict_laws.specs.Steps.{first-le}
@@ -45,7 +46,7 @@ module _ {x : Items} (f : Facts x) where
       go (mark.Endless l b) e = omega arith
 
   pub start-small : (j : ℕ) → size (startOf x j) ≤ mostStart
-  start-small j = within-size mostStart (startOf x j) (f .starts j)
+  start-small j = within-size mostStart (startOf x j) (starts f j)
 
   module _ (j : ℕ) where
     way-size : (w : Way) → size (update (moveBy x w) j) ≤ 9999

@@ -24,11 +24,15 @@ pub struct Tables {
     pub bases: Table,
 }
 
-// The counters at the start.
+// The counters at the start: the starting weights, and 0 where there are none.
 fn start(c: Case) -> Counters
+    requires { ⌜ Sound c ⌝ }
     ensures { λ r. ⌜ r ≡ vecOf (startOf (itemsOf c)) ⌝ }
 {
-    counters::zero()
+    let all = c.weights;
+    let weights = all[0];
+    let values = weights.at;
+    Counters { at: values }
 }
 
 impl Tables {

@@ -6,7 +6,7 @@ use Rattle.laws.specs.Sizes.{size, add-size, within-size}
 use Rattle.laws.specs.Tests.{cond-by}
 use Rattle.items.specs.declared.Term.{Term}
 use Rattle.items.specs.declared.Term.the-variants as term
-use Rattle.verdict.specs.Labels.{worth, weightOf, labelOf}
+use Rattle.verdict.specs.Labels.{worth, gainOf, labelOf}
 use Rattle.maxplus.specs.Bounds.{Light}
 use Rattle.untils.specs.Sums.{Mild}
 
@@ -15,7 +15,7 @@ worth-size mark term.None h = omega arith
 worth-size mark (term.Some c s) h = cond-by (λ z. size z ≤ 999) (mark s) (λ e. within-size 999 c h) (λ e. omega arith)
 
 pub mild-light : (mk : ℕ → ℕ → Bool) (a b : ℕ) (t u : Term) → Mild t → Mild u → Light (labelOf mk a b t u)
-unfolding weightOf
+unfolding gainOf
 mild-light mk a b t u h k =
     record {
       each =

@@ -17,7 +17,7 @@ use Rattle.kinds.specs.declared.Kind.the-variants as kind
 use Rattle.items.specs.declared.Term.{Term}
 use Rattle.items.specs.Lists.{Items, roomOf}
 use Rattle.meaning.specs.Judged.{marked}
-use Rattle.verdict.specs.Labels.{Label, weightOf}
+use Rattle.verdict.specs.Labels.{Label, gainOf}
 use Rattle.rounds.specs.Bits.{unmarked}
 use Rattle.maxplus.specs.declared.Steps.{Steps}
 use Rattle.maxplus.specs.Numbers.{none, entryAt, choiceBy, stopOf, goOf}
@@ -55,13 +55,13 @@ module _ (x : Items) where
 
   -- to go on from place p, where sentence a is held
   abbrev pub goAt : ℕ → Term → Term → ℕ → ℤ
-  goAt a t u p = choiceBy (marked x a p) (weightOf (λ s. marked x s p) t u)
+  goAt a t u p = choiceBy (marked x a p) (gainOf (λ s. marked x s p) t u)
 
   pub stop-past : (b p : ℕ) → length (x .places) ≤ p → stopAt b p ≡ none
   stop-past b p h = ap (λ c. choiceBy c (pos 0)) (unmarked x b p h)
 
   pub go-past : (a : ℕ) (t u : Term) (p : ℕ) → length (x .places) ≤ p → goAt a t u p ≡ none
-  go-past a t u p h = ap (λ c. choiceBy c (weightOf (λ s. marked x s p) t u)) (unmarked x a p h)
+  go-past a t u p h = ap (λ c. choiceBy c (gainOf (λ s. marked x s p) t u)) (unmarked x a p h)
 
 -- ---- the table has the steps
 

@@ -43,9 +43,9 @@ fn steps_of(c: Case, a: u8, b: u8, t: Term, u: Term) -> Steps
     while p < c.count.places {
         let place = places[p];
         let marks = place.marks;
-        let weight = (worth(marks, t) as i64) + (worth(marks, u) as i64);
+        let gain = (worth(marks, t) as i64) + (worth(marks, u) as i64);
         stops[p] = maxplus::choice(rounds::bit(marks, b), 0);
-        goes[p] = maxplus::choice(rounds::bit(marks, a), weight);
+        goes[p] = maxplus::choice(rounds::bit(marks, a), gain);
         p = p + 1;
     }
     Steps {

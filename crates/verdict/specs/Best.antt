@@ -45,7 +45,7 @@ greater Any v = Any
 
 -- on from a place, where it is held
 abbrev pub onward : Label → Best → Best
-onward l v = cond (l .held) (plus (l .weight) v) None
+onward l v = cond (l .held) (plus (l .gain) v) None
 
 -- the best at a place, where v is the best at the next
 unfoldable pub step : Label → Best → Best

@@ -139,16 +139,16 @@ cond-at b false v h = (λ e. absurd (false≢true e), λ k. absurd (false≢true
 
 -- a goal here, or on from here with the rest of the bound
 pub step-at : (l : Label) (v : Best) (b : ℤ) →
-    (isReached b (step l v) ≡ true) ↔ (((l .goal ≡ true) × (b ≤ℤ pos 0)) ⊎ ((l .held ≡ true) × (isReached (b +ℤ negℤ (l .weight)) v ≡ true)))
+    (isReached b (step l v) ≡ true) ↔ (((l .goal ≡ true) × (b ≤ℤ pos 0)) ⊎ ((l .held ≡ true) × (isReached (b +ℤ negℤ (l .gain)) v ≡ true)))
 unfolding step
 step-at l v b =
     let here = cond (l .goal) (best.Sum (pos 0)) best.None in
     rw (at-greater b here (onward l v)) (tells-or (isReached b here) (isReached b (onward l v))
     (cond-at b (l .goal) (best.Sum (pos 0)) (λ e. le-in (omega tests), λ h. omega tests))
-    (cond-at b (l .held) (plus (l .weight) v) (rw (at-plus b (l .weight) v) Iff·rfl)))
+    (cond-at b (l .held) (plus (l .gain) v) (rw (at-plus b (l .gain) v) Iff·rfl)))
 
 pub step-keeps : (l : Label) (v w : Best) → v ⊑ w → step l v ⊑ step l w
-step-keeps l v w h b e = step-at l w b .1 (⊎-elim inl (λ k. inr (k .0, h (b +ℤ negℤ (l .weight)) (k .1))) (step-at l v b .0 e))
+step-keeps l v w h b e = step-at l w b .1 (⊎-elim inl (λ k. inr (k .0, h (b +ℤ negℤ (l .gain)) (k .1))) (step-at l v b .0 e))
 
 pub chain-keeps : (l : ℕ → Label) (p n : ℕ) (v w : Best) → v ⊑ w → chain l p n v ⊑ chain l p n w
 unfolding chain
@@ -166,7 +166,7 @@ unfolding greater
 onward-is l a s v = go (l .held) s
   where
     w : ℤ
-    w = l .weight
+    w = l .gain
 
     go : (t : Bool) (s : Best) → cond t (plus w (greater a (afterSum s v))) best.None ≡ greater (cond t (plus w a) best.None) (afterSum (cond t (plus w s) best.None) v)
     go true best.None = plus-greater w a best.None

@@ -19,7 +19,7 @@ use Rattle.items.specs.Lists.{Items}
 use Rattle.rules.specs.Rules.{markAt, Closed}
 use Rattle.meaning.specs.Run.{Moment, Spot, Step, here, stretch, goesAgain, next, spot}
 use Rattle.meaning_laws.specs.Facts.{Laid}
-use Rattle.meaning_laws.specs.Counting.{totalWeight, Gets, splice}
+use Rattle.meaning_laws.specs.Counting.{totalGain, Gets, splice}
 use Rattle.meaning_laws.specs.Walk.{spotAt, next-on, next-back, next-out}
 use Rattle.meaning_laws.specs.Stays.{in-plan}
 use Rattle.meaning_laws.specs.Between.{is-later, one-way}
@@ -44,9 +44,9 @@ record BestTo (l : ℕ → Label) (f : ℕ) (m : Moment) (v : Best) : Type 0 whe
 
 -- one moment back: a goal now, or held now and got from the next moment on
 best-step : (l : ℕ → Label) {f f′ : ℕ} {m : Moment} {v : Best} → f′ ≤ suc f → BestTo l f (suc m) v → BestTo l f′ m (step (l m) v)
-unfolding totalWeight splice
+unfolding totalGain splice
 best-step l {m = m} {v = v} fewer t =
-    let w = l m .weight in
+    let w = l m .gain in
     record {
       reached = λ b e. ⊎-elim
           (λ h. record { n = 0; goal = rw add-zero (h .0); held = λ j g. absurd (omega arith); enough = h .1 })

@@ -17,7 +17,7 @@ use Rattle.items.specs.Lists.{roomOf, noItem}
 use Rattle.rules_laws.specs.Held.{counted}
 use Rattle.meaning.specs.Truth.{bit}
 use Rattle.meaning.specs.Judged.{marked}
-use Rattle.verdict.specs.Labels.{worth, weightOf}
+use Rattle.verdict.specs.Labels.{worth, gainOf}
 use Rattle.maxplus.specs.declared.Steps.{Steps}
 use Rattle.maxplus.specs.Numbers.{none, choiceBy}
 use Rattle.tables.specs.Reads.{at-places}
@@ -71,8 +71,8 @@ worth-requires c κs = search needs
 fits : (c : tie.After-worth Inv-loop μ-loop) → SFits w16 (c .worth .result)
 fits c = sfits-of (c .worth .ok)
 
-cast-weight : tie.Need-cast-weight Inv-loop μ-loop
-cast-weight c = rw (toZ-ofZ (fits c)) (sfits-widen tt (fits c))
+cast-gain : tie.Need-cast-gain Inv-loop μ-loop
+cast-gain c = rw (toZ-ofZ (fits c)) (sfits-widen tt (fits c))
 
 worth-requires-2 : tie.Need-worth-requires-2 Inv-loop μ-loop
 worth-requires-2 c κs = search needs
@@ -80,8 +80,8 @@ worth-requires-2 c κs = search needs
 fits2 : (c : tie.After-worth2 Inv-loop μ-loop) → SFits w16 (c .worth2 .result)
 fits2 c = sfits-of (c .worth2 .ok)
 
-cast-weight-2 : tie.Need-cast-weight-2 Inv-loop μ-loop
-cast-weight-2 c = rw (toZ-ofZ (fits2 c)) (sfits-widen tt (fits2 c))
+cast-gain-2 : tie.Need-cast-gain-2 Inv-loop μ-loop
+cast-gain-2 c = rw (toZ-ofZ (fits2 c)) (sfits-widen tt (fits2 c))
 
 module _ (c : tie.After-worth2 Inv-loop μ-loop) where
   -- the place of this turn
@@ -89,16 +89,16 @@ module _ (c : tie.After-worth2 Inv-loop μ-loop) where
   i = c .before .before .before
 
   first-read : toZ w64 (ofZ w64 (toZ w16 (ofZ w16 (c .before .worth .result)))) ≡ c .before .worth .result
-  first-read = toZ-ofZ (cast-weight (c .before)) ∙ toZ-ofZ (fits (c .before))
+  first-read = toZ-ofZ (cast-gain (c .before)) ∙ toZ-ofZ (fits (c .before))
 
   second-read : toZ w64 (ofZ w64 (toZ w16 (ofZ w16 (c .worth2 .result)))) ≡ c .worth2 .result
-  second-read = toZ-ofZ (cast-weight-2 c) ∙ toZ-ofZ (fits2 c)
+  second-read = toZ-ofZ (cast-gain-2 c) ∙ toZ-ofZ (fits2 c)
 
   small : size (c .before .worth .result) + size (c .worth2 .result) < 2 ^ 63
   small = omega (arith, fits-size w16 (c .before .worth .result) (fits (c .before)), fits-size w16 (c .worth2 .result) (fits2 c))
 
-add-weight : tie.Need-add-weight Inv-loop μ-loop
-add-weight c = add-fits w64 (first-read c) (second-read c) (small c)
+add-gain : tie.Need-add-gain Inv-loop μ-loop
+add-gain c = add-fits w64 (first-read c) (second-read c) (small c)
 
 bit-requires : tie.Need-bit-requires Inv-loop μ-loop
 bit-requires c κs = search needs
@@ -131,7 +131,7 @@ loop-less : tie.Need-loop-less Inv-loop μ-loop
 loop-less c = omega (arith, i (c .before .before .before .before) .if1 .taken)
 
 loop-again : tie.Need-loop-again Inv-loop μ-loop
-unfolding weightOf
+unfolding gainOf
 loop-again c =
     let d = c .before .before in
     let w = d .before .before in
@@ -159,10 +159,10 @@ steps-of-spec =
     mul-place
     array-copy-out-place
     worth-requires
-    cast-weight
+    cast-gain
     worth-requires-2
-    cast-weight-2
-    add-weight
+    cast-gain-2
+    add-gain
     bit-requires
     choice-requires
     mul-stops

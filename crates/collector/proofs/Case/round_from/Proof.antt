@@ -2,7 +2,7 @@
 use borrow.Author.Needs.{needs}
 use mathlib.Core.Path.{_≡_, refl, sym, _∙_, ap, subst}
 use mathlib.Core.Logic.{⊎-elim}
-use mathlib.Core.List.{List, [], map}
+use mathlib.Core.List.{List, map}
 use Prim.Native.Nat.{ℕ, _+_, _-_, _≤_, _<_}
 use native.Mathlib.Omega.{arith}
 use lib.IntN.{ℤ, pos, _+ℤ_}
@@ -11,7 +11,8 @@ use Rattle.kinds.specs.declared.Kind.the-variants as kind
 use Rattle.counters.specs.Values.{values-same}
 use Rattle.items.specs.declared.Move.{Move}
 use Rattle.items.specs.declared.Place.{Place}
-use Rattle.items.specs.Lists.{Items, roomOf}
+use Rattle.items.specs.Lists.{roomOf}
+use Rattle.items.specs.Laws.{movesAndPlaces}
 use Rattle.meaning.specs.Run.{placeAt, backOf, moveAt, update}
 use Rattle.meaning.specs.Drift.{onceAround}
 use Rattle.collector.specs.Cases.{slotOf, arraysOf}
@@ -20,12 +21,8 @@ use Rattle.collector.proofs.Drifts.{once-same}
 use Rattle.collector.proofs.Case.round_from.Statement.{statement}
 use Rattle.collector.proofs.Case.round_from.Tie as tie
 
--- the moves and the places
-abbrev plan : List Move → List Place → Items
-plan ts ps = record { states = []; guards = []; moves = ts; sentences = []; places = ps }
-
 abbrev Inv-loop : tie.InvT-loop
-Inv-loop q n moves places v₀ back p₀ v p = (q ≤ p) × (p ≤ n) × Sums v (λ j. onceAround (plan moves places) j q (p - q)) (p - q + 1)
+Inv-loop q n moves places v₀ back p₀ v p = (q ≤ p) × (p ≤ n) × Sums v (λ j. onceAround (movesAndPlaces moves places) j q (p - q)) (p - q + 1)
 
 abbrev μ-loop : tie.MeasureT-loop
 μ-loop q n moves places v₀ back p₀ v p = n - p
@@ -53,12 +50,12 @@ module _ (c : tie.After-slot Inv-loop μ-loop) where
   none : Sums (c .before .before .zero .result) (λ j. pos 0) 0
   none = record { are = ap (λ (l : List ℤ). record { at = l }) (c .before .before .zero .ensures); small = λ j h. omega arith }
 
-begun : (c : tie.Joined1 Inv-loop μ-loop) → let b = c .before in Sums (c .if1 .v) (λ j. onceAround (plan (ts b) (ps b)) j (q b) (q b - q b)) (q b - q b + 1)
+begun : (c : tie.Joined1 Inv-loop μ-loop) → let b = c .before in Sums (c .if1 .v) (λ j. onceAround (movesAndPlaces (ts b) (ps b)) j (q b) (q b - q b)) (q b - q b + 1)
 begun c =
     let b = c .before in
     let e = b .slot .ensures ∙ ap slotOf (b .before .move-into .ensures) in
     let r = backOf (placeAt (ps b) (q b) .mark) in
-    round-begun (plan (ts b) (ps b)) (q b) (q b - q b) (omega arith)
+    round-begun (movesAndPlaces (ts b) (ps b)) (q b) (q b - q b) (omega arith)
     (⊎-elim
     (λ w. subst (λ v. Sums v (λ j. pos 0 +ℤ update (moveAt (ts b) r) j) (0 + 1)) (sym (w .3))
     (sums-more (ts b) (long b) r e (none b) _ (omega (arith, w .0 .taken)) (w .2 .ensures .0) (w .2 .ensures .1)))
@@ -72,16 +69,16 @@ inside c = omega (arith, c .loop-test .taken, s (c .before .before .before) .pre
 gone-on : (c : tie.Joined2 Inv-loop μ-loop) →
     let b = c .before .before .before .before .before .before .before in
     let l = c .before .before .before .before .before .loop in
-    Sums (c .if2 .v) (λ j. onceAround (plan (ts b) (ps b)) j (q b) (l .p + 1 - q b)) (l .p + 1 - q b + 1)
+    Sums (c .if2 .v) (λ j. onceAround (movesAndPlaces (ts b) (ps b)) j (q b) (l .p + 1 - q b)) (l .p + 1 - q b + 1)
 gone-on c =
     let a = c .before in
     let l = a .before .before .before .before .loop in
     let b = a .before .before .before .before .before .before in
     let e = a .slot2 .ensures ∙ ap slotOf (a .before .move-into2 .ensures) in
     let r = placeAt (ps b) (l .p + 1) .way in
-    let f : ℕ → ℤ = λ j. onceAround (plan (ts b) (ps b)) j (q b) (l .p - q b) in
+    let f : ℕ → ℤ = λ j. onceAround (movesAndPlaces (ts b) (ps b)) j (q b) (l .p - q b) in
     let i = l .inv in
-    round-on (plan (ts b) (ps b)) (q b) (l .p - q b) (l .p + 1 - q b) (l .p + 1) (omega (arith, i .0)) (omega (arith, i .0))
+    round-on (movesAndPlaces (ts b) (ps b)) (q b) (l .p - q b) (l .p + 1 - q b) (l .p + 1) (omega (arith, i .0)) (omega (arith, i .0))
     (⊎-elim
     (λ w. subst (λ v. Sums v (λ j. f j +ℤ update (moveAt (ts b) r) j) (l .p - q b + 1 + 1)) (sym (w .3))
     (sums-more (ts b) (long b) r e (i .2) _ (w .0 .taken) (w .2 .ensures .0) (w .2 .ensures .1)))
@@ -155,7 +152,7 @@ returns : tie.Need-returns Inv-loop μ-loop
 returns c =
     let l = c .before .loop in
     let b = c .before .before .before in
-    let x = plan (ts b) (ps b) in
+    let x = movesAndPlaces (ts b) (ps b) in
     let e : l .p ≡ s b .args .n = omega (arith, l .inv .1) in
     l .inv .2 .are
     ∙ values-same (λ j. onceAround x j (q b) (l .p - q b)) (λ j. onceAround (arraysOf (s b .args .self)) j (q b) (s b .args .n - q b))

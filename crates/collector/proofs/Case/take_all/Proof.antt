@@ -75,7 +75,7 @@ within : (c : tie.Then2 Inv-loop μ-loop) →
 within c =
     let e = c .before in (
       leb-true _ _ (and-eq-true-iff _ _ .0 (sym (e .ends-at .ensures) ∙ c .if2 .taken) .0),
-      omega (arith, room (e .before .before .before .before .before .before .before) kind.Place (e .before .before .before .before .before .enum-told6 .given .1)),
+      omega (arith, room (e .before .before .before .before .before .before .before) kind.Place (e .before .before .before .before .before .enum-told7 .given .1)),
     )
 
 -- what is stored is the item that the record says
@@ -88,6 +88,8 @@ stored-so c =
     λ i e. ap (λ j. stored b j (d .read .result)) (sym e) in
     ⊎-elim
     (λ w. w .4 ∙ rw (w .2 .ensures) (of kind.State (w .1 .given .1)))
+    (⊎-elim
+    (λ w. w .4 ∙ rw (w .2 .ensures) (of kind.Weights (w .1 .given .1)))
     (⊎-elim
     (λ w. w .4 ∙ rw (w .2 .ensures) (of kind.Guard (w .1 .given .1)))
     (⊎-elim
@@ -102,7 +104,7 @@ stored-so c =
     (λ w.
     w .8
     ∙ rw (w .5 .ensures, w .2 .ensures)
-    (stored-place b (d .read .result) (w .2 .ensures) (w .5 .ensures) (w .6 .ensures) (w .7 .left) ∙ of kind.Place (w .1 .given .1)))))))
+    (stored-place b (d .read .result) (w .2 .ensures) (w .5 .ensures) (w .6 .ensures) (w .7 .left) ∙ of kind.Place (w .1 .given .1))))))))
     (c .match2 .came)
 
 loop-holds : tie.Need-loop-holds Inv-loop μ-loop
@@ -181,68 +183,83 @@ add-self c = omega (arith, room (c .before .before .before) kind.State (c .befor
 enum-told-3 : tie.Need-enum-told-3 Inv-loop μ-loop
 enum-told-3 c = search needs
 
+weights-of-requires : tie.Need-weights-of-requires Inv-loop μ-loop
+weights-of-requires c κs = search needs
+
+mul-weights : tie.Need-mul-weights Inv-loop μ-loop
+mul-weights c = omega (arith, room (c .before .before .before) kind.Weights (c .before .enum-told3 .given .1))
+
+element-set-from-weights : tie.Need-element-set-from-weights Inv-loop μ-loop
+element-set-from-weights c = omega (arith, room (c .before .before .before) kind.Weights (c .before .enum-told3 .given .1))
+
+add-self-2 : tie.Need-add-self-2 Inv-loop μ-loop
+add-self-2 c = omega (arith, room (c .before .before .before) kind.Weights (c .before .enum-told3 .given .1))
+
+enum-told-4 : tie.Need-enum-told-4 Inv-loop μ-loop
+enum-told-4 c = search needs
+
 guard-of-requires : tie.Need-guard-of-requires Inv-loop μ-loop
 guard-of-requires c κs = search needs
 
 mul-guard : tie.Need-mul-guard Inv-loop μ-loop
-mul-guard c = omega (arith, room (c .before .before .before) kind.Guard (c .before .enum-told3 .given .1))
+mul-guard c = omega (arith, room (c .before .before .before) kind.Guard (c .before .enum-told4 .given .1))
 
 element-set-from-guard : tie.Need-element-set-from-guard Inv-loop μ-loop
-element-set-from-guard c = omega (arith, room (c .before .before .before) kind.Guard (c .before .enum-told3 .given .1))
+element-set-from-guard c = omega (arith, room (c .before .before .before) kind.Guard (c .before .enum-told4 .given .1))
 
-add-self-2 : tie.Need-add-self-2 Inv-loop μ-loop
-add-self-2 c = omega (arith, room (c .before .before .before) kind.Guard (c .before .enum-told3 .given .1))
+add-self-3 : tie.Need-add-self-3 Inv-loop μ-loop
+add-self-3 c = omega (arith, room (c .before .before .before) kind.Guard (c .before .enum-told4 .given .1))
 
-enum-told-4 : tie.Need-enum-told-4 Inv-loop μ-loop
-enum-told-4 c = search needs
+enum-told-5 : tie.Need-enum-told-5 Inv-loop μ-loop
+enum-told-5 c = search needs
 
 move-of-requires : tie.Need-move-of-requires Inv-loop μ-loop
 move-of-requires c κs = search needs
 
 mul-transition : tie.Need-mul-transition Inv-loop μ-loop
-mul-transition c = omega (arith, room (c .before .before .before) kind.Move (c .before .enum-told4 .given .1))
+mul-transition c = omega (arith, room (c .before .before .before) kind.Move (c .before .enum-told5 .given .1))
 
 element-set-from-transition : tie.Need-element-set-from-transition Inv-loop μ-loop
-element-set-from-transition c = omega (arith, room (c .before .before .before) kind.Move (c .before .enum-told4 .given .1))
+element-set-from-transition c = omega (arith, room (c .before .before .before) kind.Move (c .before .enum-told5 .given .1))
 
-add-self-3 : tie.Need-add-self-3 Inv-loop μ-loop
-add-self-3 c = omega (arith, room (c .before .before .before) kind.Move (c .before .enum-told4 .given .1))
+add-self-4 : tie.Need-add-self-4 Inv-loop μ-loop
+add-self-4 c = omega (arith, room (c .before .before .before) kind.Move (c .before .enum-told5 .given .1))
 
-enum-told-5 : tie.Need-enum-told-5 Inv-loop μ-loop
-enum-told-5 c = search needs
+enum-told-6 : tie.Need-enum-told-6 Inv-loop μ-loop
+enum-told-6 c = search needs
 
 sentence-of-requires : tie.Need-sentence-of-requires Inv-loop μ-loop
 sentence-of-requires c κs = search needs
 
 mul-sentence : tie.Need-mul-sentence Inv-loop μ-loop
-mul-sentence c = omega (arith, room (c .before .before .before) kind.Sentence (c .before .enum-told5 .given .1))
+mul-sentence c = omega (arith, room (c .before .before .before) kind.Sentence (c .before .enum-told6 .given .1))
 
 element-set-from-sentence : tie.Need-element-set-from-sentence Inv-loop μ-loop
-element-set-from-sentence c = omega (arith, room (c .before .before .before) kind.Sentence (c .before .enum-told5 .given .1))
+element-set-from-sentence c = omega (arith, room (c .before .before .before) kind.Sentence (c .before .enum-told6 .given .1))
 
-add-self-4 : tie.Need-add-self-4 Inv-loop μ-loop
-add-self-4 c = omega (arith, room (c .before .before .before) kind.Sentence (c .before .enum-told5 .given .1))
+add-self-5 : tie.Need-add-self-5 Inv-loop μ-loop
+add-self-5 c = omega (arith, room (c .before .before .before) kind.Sentence (c .before .enum-told6 .given .1))
 
-enum-told-6 : tie.Need-enum-told-6 Inv-loop μ-loop
-enum-told-6 c = search needs
+enum-told-7 : tie.Need-enum-told-7 Inv-loop μ-loop
+enum-told-7 c = search needs
 
 place-of-requires : tie.Need-place-of-requires Inv-loop μ-loop
 place-of-requires c κs = search needs
 
 mul-place : tie.Need-mul-place Inv-loop μ-loop
-mul-place c = omega (arith, room (c .before .before .before) kind.Place (c .before .enum-told6 .given .1))
+mul-place c = omega (arith, room (c .before .before .before) kind.Place (c .before .enum-told7 .given .1))
 
 element-set-from-place : tie.Need-element-set-from-place Inv-loop μ-loop
-element-set-from-place c = omega (arith, room (c .before .before .before) kind.Place (c .before .enum-told6 .given .1))
+element-set-from-place c = omega (arith, room (c .before .before .before) kind.Place (c .before .enum-told7 .given .1))
 
-add-self-5 : tie.Need-add-self-5 Inv-loop μ-loop
-add-self-5 c = omega (arith, room (c .before .before .before) kind.Place (c .before .enum-told6 .given .1))
+add-self-6 : tie.Need-add-self-6 Inv-loop μ-loop
+add-self-6 c = omega (arith, room (c .before .before .before) kind.Place (c .before .enum-told7 .given .1))
 
 after-requires : tie.Need-after-requires Inv-loop μ-loop
-after-requires c κs = omega (arith, room (c .before .before .before .before .before) kind.Place (c .before .before .before .enum-told6 .given .1))
+after-requires c κs = omega (arith, room (c .before .before .before .before .before) kind.Place (c .before .before .before .enum-told7 .given .1))
 
 ends-at-requires : tie.Need-ends-at-requires Inv-loop μ-loop
-ends-at-requires c κs = omega (arith, room (c .before .before .before .before .before .before) kind.Place (c .before .before .before .before .enum-told6 .given .1))
+ends-at-requires c κs = omega (arith, room (c .before .before .before .before .before .before) kind.Place (c .before .before .before .before .enum-told7 .given .1))
 
 round-from-requires : tie.Need-round-from-requires Inv-loop μ-loop
 round-from-requires c κs = (omega (arith, within (c .before)), omega (arith, within (c .before)))
@@ -314,25 +331,30 @@ take-all-spec =
     element-set-from-state
     add-self
     enum-told-3
+    weights-of-requires
+    mul-weights
+    element-set-from-weights
+    add-self-2
+    enum-told-4
     guard-of-requires
     mul-guard
     element-set-from-guard
-    add-self-2
-    enum-told-4
+    add-self-3
+    enum-told-5
     move-of-requires
     mul-transition
     element-set-from-transition
-    add-self-3
-    enum-told-5
+    add-self-4
+    enum-told-6
     sentence-of-requires
     mul-sentence
     element-set-from-sentence
-    add-self-4
-    enum-told-6
+    add-self-5
+    enum-told-7
     place-of-requires
     mul-place
     element-set-from-place
-    add-self-5
+    add-self-6
     after-requires
     ends-at-requires
     round-from-requires

@@ -20,9 +20,13 @@ add-result-4 : tie.Need-add-result-4
 unfolding sumOver
 add-result-4 c = omega (arith, c .before .before .before .before .pre)
 
+add-result-5 : tie.Need-add-result-5
+unfolding sumOver
+add-result-5 c = omega (arith, c .before .before .before .before .before .pre)
+
 returns : tie.Need-returns
 unfolding sumOver
 returns c = omega arith
 
 pub total-spec : {M : Type 1} → statement M
-total-spec = tie.close (tie.spec add-result add-result-2 add-result-3 add-result-4 returns)
+total-spec = tie.close (tie.spec add-result add-result-2 add-result-3 add-result-4 add-result-5 returns)
