@@ -12,7 +12,7 @@ from cases import LENGTH, ROOT, TWELVE, pack, stored
 from tally import Tally
 
 TOOL = ROOT / "tools" / "case"
-KINDS = "is none of S, G, T, F, P"
+KINDS = "is none of S, W, G, T, F, P"
 RECORD = TWELVE[4 * LENGTH:5 * LENGTH]  # its field 3 is 1250
 
 # Notation, and why `spell` refuses it.
@@ -20,6 +20,7 @@ NO_NOTATION = [
     ("S 1\nX 1\n", f"line 2, record 1: the kind 'X' {KINDS}"),
     ("s 1", f"line 1, record 0: the kind 's' {KINDS}"),
     ("SG 1", f"line 1, record 0: the kind 'SG' {KINDS}"),
+    ("S 1 / w 0 0 0 0", f"line 1, record 1: the kind 'w' {KINDS}"),
     ("# two records\n\n`S 1` / `S 2`", f"line 3, record 0: the kind '`S' {KINDS}"),
     ("S 1 / P 0 . 21 2 12 1`", "line 1, record 1, field 6: '1`' has a backquote"),
     ("T 0 1 1 2 3 4 5 6 7", "line 1, record 0: 9 fields, and a record has 8"),
@@ -35,6 +36,7 @@ NO_NOTATION = [
     ("S -", "line 1, record 0, field 1: '-' is no number"),
     ("S one", "line 1, record 0, field 1: 'one' is no number"),
     ("S 10000000", "line 1, record 0, field 1: '10000000' has 8 characters, and a field has room for 7"),
+    ("W 0 0 0 10000000", "line 1, record 0, field 4: '10000000' has 8 characters, and a field has room for 7"),
     ("G 0 0 0 0 -1000000", "line 1, record 0, field 5: '-1000000' has 8 characters, and a field has room for 7"),
     ("S 1/S 2", "line 1, record 0, field 1: '1/S' has a slash (between records it needs a space on each side)"),
     ("S 1 / / S 2", "line 1: a slash without a record on each side"),
@@ -66,6 +68,7 @@ ALSO_NOTATION = [
     ("\n  # nothing / here\n", []),
     ("  S  1   /   P  0  .  21#0 / 1\n\n S 2", [["S", "1"], ["P", "0", ".", "21"], ["S", "2"]]),
     ("G -999999 9999999 . . . . . .", [["G", "-999999", "9999999"]]),
+    ("W -999999 9999999 0 -1", [["W", "-999999", "9999999", "0", "-1"]]),
     ("S / F . . . . . . . 0", [["S"], ["F", ".", ".", ".", ".", ".", ".", ".", "0"]]),
 ]
 

@@ -14,15 +14,17 @@ import subprocess
 import sys
 import tempfile
 
-from cases import LENGTH, ROOT, TWELVE, stored, with_field
+from cases import LENGTH, ROOT, TWELVE, pack, stored, with_field
 from pages import blocks, cut, results_defined, spell, unspelled, with_changes
 from tally import Tally
 
 PAGE = ROOT / "docs" / "EXPLAIN.md"
 README = ROOT / "README.md"
 TOOL = ROOT / "tools" / "case"
-BLOCKS = 54  # that the page has at least; whoever adds to it raises this
+BLOCKS = 66  # that the page has at least; whoever adds to it raises this
 COMMA = with_field(TWELVE, 4, 3, "1,250")
+WEIGHED = TWELVE[:2 * LENGTH] + pack(["W", "0", "0", "0", "0"]) + TWELVE[2 * LENGTH:]  # with weights, behind the states
+LETTERS = b"SWGTFP"
 # Programs of the shell that print no line, or one that doesn't fit the twelve rounds, and what is said of them.
 NO_LINE = [
     ("exit 3", "no line: PROGRAM ended with status 3"),
@@ -150,14 +152,14 @@ def bytes_shown(tally, name, data, lines):
 
 
 def scrambled(draw):
-    """Bytes at random, all of them or some of the twelve rounds; with line feeds at the ends of records, and letters and digits often."""
-    data = bytearray(TWELVE if draw.random() < 0.6 else draw.randbytes(draw.randrange(300)))
+    """Bytes at random, all of them or some of the twelve rounds, weighed or not; with line feeds at the ends of records, and letters and digits often."""
+    data = bytearray(draw.choice([TWELVE, WEIGHED]) if draw.random() < 0.6 else draw.randbytes(draw.randrange(300)))
     for _ in range(draw.choice([0, 1, 1, 2, 5]) if data else 0):
-        data[draw.randrange(len(data))] = draw.choice([draw.randrange(256), draw.choice(b" 0123456789-"), draw.choice(b"SGTFP")])
+        data[draw.randrange(len(data))] = draw.choice([draw.randrange(256), draw.choice(b" 0123456789-"), draw.choice(LETTERS)])
     if draw.random() < 0.5:
         data[LENGTH - 1::LENGTH] = b"\n" * len(data[LENGTH - 1::LENGTH])
     if draw.random() < 0.5 and data:
-        data[0] = draw.choice(b"SGTFP")
+        data[0] = draw.choice(LETTERS)
     return bytes(data[:draw.randrange(len(data) + 1)] if draw.random() < 0.2 else data)
 
 

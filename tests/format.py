@@ -4,7 +4,8 @@
 PROGRAM reads a case file from standard input and prints its line. Every example of the document, spelled by tools/case, gives its line; every
 result of answers/specs/Answers.antt has an example, and every form an accepted one whose root has it. The document's tables are tried: each
 range at both ends and one past them, each field blank that is needed and filled that must be blank, every choice of the fields that may be
-blank, and each kind with as many items as it may have and one more. Every definition that is cited is declared in its file.
+blank, and each kind with as many items as it may have and one more, and all kinds together. Every definition that is cited is declared in
+its file.
 """
 import collections
 import itertools
@@ -22,7 +23,7 @@ FIELDS = range(1, 9)
 SPELLED = range(-999999, 10000000)
 
 # What the document has at least. Whoever adds to it raises them.
-LEAST = {"examples": 70, "results": 18, "forms": 7, "spellings": 17, "rows": 26, "kinds": 5, "rules": 98, "citations": 200}
+LEAST = {"examples": 100, "results": 18, "forms": 7, "spellings": 17, "rows": 27, "kinds": 6, "rules": 105, "citations": 227}
 
 CITATION = re.compile(r"\[`([a-z_]+/(?:specs|src)/\w+\.(?:antt|rt))`: (`[^`]+`(?:, `[^`]+`)*)\]")
 GIVES = re.compile(r"gives (\d+ \d+ \d+)(?: +with (.*?))? *(?:#.*)?")
@@ -30,6 +31,7 @@ GIVES = re.compile(r"gives (\d+ \d+ \d+)(?: +with (.*?))? *(?:#.*)?")
 # Of each kind: records to begin with, and the last of them as often as it takes.
 ROOM = {
     "S": ["S 0"],
+    "W": ["W 0 0 0 0"],
     "G": ["G 0 0 0 0 0"],
     "T": ["S 0", "T 0 0 0 0 0 0"],
     "F": ["F 0"],
@@ -185,17 +187,27 @@ def tried(count, program, text):
     count.seen["rows"] = len(table(text, "| record | field |"))
 
 
+def one_too_many(count, program, name, records):
+    """All records but the last are taken, and the last is refused."""
+    data, last = spell("\n".join(records)), len(records) - 1
+    count.equal(f"{name}, one too many", f"22 {last} 0\n", answer(program, data))
+    count.equal(name, f"24 {last} 0\n", answer(program, data[:-LENGTH]))
+
+
 def rooms(count, program, text):
-    """The table of kinds: as many items as there may be are taken, and one more is refused."""
-    for letter, _, many, *_ in table(text, "| letter | kind |"):
-        records = list(ROOM[letter])
-        held = sum(record.startswith(letter) for record in records)
-        records += records[-1:] * (numbers(many)[1] + 1 - held)
-        data = spell("\n".join(records))
-        last = len(records) - 1
-        count.equal(f"table of kinds: {letter}, one too many", f"22 {last} 0\n", answer(program, data))
-        count.equal(f"table of kinds: {letter}", f"24 {last} 0\n", answer(program, data[:-LENGTH]))
+    """The table of kinds: as many items as there may be are taken, and one more is refused; of each kind, and of all kinds together."""
+    most = {letter: numbers(many)[1] for letter, _, many, *_ in table(text, "| letter | kind |")}
+    full = []
+    for letter, room in most.items():
+        before = [record for record in ROOM[letter] if record[0] != letter]
+        records = ROOM[letter][len(before):]
+        records += records[-1:] * (room - len(records))
+        one_too_many(count, program, f"table of kinds: {letter}", before + records + records[-1:])
+        full += records
         count.seen["kinds"] += 1
+    one_too_many(count, program, "table of kinds: all", full + full[-1:])
+    said = re.search(r"A case has room for (\d+) records. So at the latest the (\d+)th is refused", text).groups()
+    count.equal("the room of a case", (len(full), len(full) + 1), tuple(map(int, said)))
 
 
 # ---- what is cited

@@ -12,7 +12,7 @@ JUDGED = "meaning/specs/Judged.antt"
 
 PUT = re.compile(r'put (\d+) (\d+) "(.*)"')
 CUT = re.compile(r"cut (\d+)")
-BUT = re.compile(r"(\d+) ([SGTFP].*)")
+BUT = re.compile(r"(\d+) ([SWGTFP].*)")
 ESCAPED = re.compile(rb"\\(?:x([0-9a-f]{2})|(\\))")
 
 

@@ -13,9 +13,12 @@ FORMAT = ROOT / "docs" / "FORMAT.md"
 LINE = re.compile("([0-9]+) ([0-9]+) ([0-9]+)\n")
 # A row of the format's table of fields: the record, its fields, what they hold, their range, whether they are filled.
 ROW = re.compile(rf"^\| ([{''.join(KINDS)}](?: [0-9]+)?) \| ([0-9][0-9, to]*) \| (.*?) \| (.*?) \| (.*?) \|", re.M)
-# The fields of a place, and those of a move.
+# The kind of which there is one record at most, so that it isn't counted.
+WEIGHTS = KINDS["W"]
+# The fields of a place, those of a move, and those of a sentence that says a guard, with its form.
 STATE, INTO, MARKS, PLACES, ROUNDS, BACK = range(1, 7)
 LEAVES, COMES, GUARDS = 1, 2, slice(7, 9)
+FORM, GUARD, GUARD_FORM = 1, 2, "2"
 # The ways into a place.
 MOVE_IN, BACK_MOVE = "the move into the place", "the back move of the loop"
 
@@ -95,7 +98,21 @@ def counted(number, kind):
 
 
 def holding(records):
-    return ", ".join(counted(len(items(records, kind)), kind) for kind in KINDS.values())
+    """How many items there are of each kind; of weights, that they are there."""
+    numbers = {kind: len(items(records, kind)) for kind in KINDS.values()}
+    return ", ".join(kind if kind == WEIGHTS else counted(number, kind) for kind, number in numbers.items() if number or kind != WEIGHTS)
+
+
+def start_lines(records):
+    """What the run starts from, where the case has weights."""
+    return [f"the run starts from {shown(weights)}" for weights in items(records, WEIGHTS)]
+
+
+def guard_lines(records, sentence):
+    """What a sentence goes by that says a guard."""
+    if sentence.words[FORM] != GUARD_FORM:
+        return []
+    return [f"its guard is {shown(items(records, 'guard')[int(sentence.words[GUARD])])}"] + start_lines(records)
 
 
 def format_of(thing, field):
@@ -195,6 +212,8 @@ def too_late(records, where, _):
 
 def too_many(records, where, _):
     thing = item(records, where)
+    if thing.kind == WEIGHTS:
+        return [shown(thing), f"before it stands {shown(items(records, WEIGHTS)[0])}"]
     return [shown(thing), f"before it stand {counted(thing.number, thing.kind)}"]
 
 
@@ -259,14 +278,15 @@ def guard_fails(records, where, what):
         if str(what) in moves[number].words[GUARDS] and not never:
             lines.append(shown(moves[number]))
             lines.append(f"move {number} has guard {what}, and is {words}, from place {before.number} to place {where}")
-    return lines
+    return lines + start_lines(records)
 
 
 def wrong_mark(records, where, what):
-    place = items(records, "place")[where]
+    place, sentence = items(records, "place")[where], items(records, "sentence")[what]
     marked = int(place.words[MARKS]) >> what & 1
     how = "is marked, and is false" if marked else "isn't marked, and is true"
-    return [shown(place), shown(items(records, "sentence")[what]), marks_line(place), f"sentence {what} {how} at one of the place's moments"]
+    lines = [shown(place), shown(sentence), marks_line(place), f"sentence {what} {how} at one of the place's moments"]
+    return lines + guard_lines(records, sentence)
 
 
 def root_unmarked(records, where, what):

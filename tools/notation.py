@@ -1,7 +1,7 @@
 """The short notation of case files: `spell` turns it into a case file, `show` turns a case file back. tools/case has its rules."""
 import re
 
-KINDS = {"S": "state", "G": "guard", "T": "move", "F": "sentence", "P": "place"}
+KINDS = {"S": "state", "W": "weights", "G": "guard", "T": "move", "F": "sentence", "P": "place"}
 FIELDS = 8
 WIDTH = 7
 LENGTH = 1 + FIELDS * WIDTH + 1
