@@ -9,5 +9,6 @@ pub mod Bytes
 pub mod First
 pub mod Kept
 pub mod Spelled
+pub mod Weights
 pub mod Theorems
 pub mod KeptDrifts

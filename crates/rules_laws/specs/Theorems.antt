@@ -10,13 +10,15 @@ use lib.ListN.{length}
 use Rattle.laws.specs.Tests.{cond-by}
 use Rattle.record.specs.declared.Content.the-variants.{Number}
 use Rattle.record.specs.Spelling.{contentOf}
-use Rattle.record.specs.Layout.{width, recordOf, cut}
+use Rattle.record.specs.Layout.{width, recordLength, recordOf, cut}
 use Rattle.record_laws.specs.Spelled.{one-spelling, spellable-range}
 use Rattle.kinds.specs.declared.Kind.{Kind}
+use Rattle.kinds.specs.declared.Kind.the-variants as kind
 use Rattle.table.specs.Sorts.{Bound}
 use Rattle.items.specs.Items.{itemOf, rowOf}
-use Rattle.items.specs.Lists.{listOf}
+use Rattle.items.specs.Lists.{Items, listOf}
 use Rattle.answers.specs.declared.Answer.{Answer}
+use Rattle.answers.specs.declared.Answer.the-variants.{OutOfRange}
 use Rattle.answers.specs.Answers.{isTaken}
 use Rattle.rules.specs.Rules.{IsA, InRange, Applies, IsFirst}
 use Rattle.collector.specs.declared.Case.{Case}
@@ -29,6 +31,7 @@ use Rattle.rules_laws.specs.Held.{same-kind, other-kind, refused-same, t
 use Rattle.rules_laws.specs.First.{answers-first, first-one}
 use Rattle.rules_laws.specs.Kept.{sound-empty, sound-kept}
 use Rattle.rules_laws.specs.Spelled.{Spells, spells-file}
+use Rattle.rules_laws.specs.Weights.{no-16}
 
 -- a record is taken where no refusal applies, and else gets the first that applies, of which there is one
 pub answers : (c : Case) (bs : List ℕ) → Sound c →
@@ -99,3 +102,7 @@ spelled-case = spells-file
 -- a bound may be any number that a field can spell: each that is read is in its range
 pub bounds : (bs : List ℕ) → length bs ≡ width → (z : ℤ) → contentOf bs ≡ Number z → InRange Bound z
 bounds bs l z e = spellable-range z .0 (one-spelling bs z l e .1)
+
+-- and so may a starting weight: 16 applies to no record of them
+pub no-16-for-weights : (bs : List ℕ) → length bs ≡ recordLength → IsA kind.Weights bs → (x : Items) (f : ℕ) → Applies x bs (OutOfRange f) → ⊥
+no-16-for-weights = no-16
