@@ -16,9 +16,10 @@ fn file(records: &[String]) -> Vec<u8> {
     bytes
 }
 
-/// 212 records: every kind fills its room, and every record is taken.
+/// 213 records: every kind fills its room, and every record is taken.
 pub fn all_rooms() -> Vec<u8> {
     let mut records: Vec<String> = (0..32).map(|i| format!("S {}", i * 2000)).collect();
+    records.push("W -999999 0 1250 9999999".to_string());
     records.extend((0..32).map(|i| format!("G {} {} {} 0 {}", i - 16, 999 - i, i - 999, i * 200_000 - 900_000)));
     for i in 0..64 {
         let guards = ["".to_string(), format!("{}", i % 32), format!("{} {}", i % 32, 31 - i % 32)];
@@ -74,8 +75,9 @@ const SENTENCES: [&str; 20] = [
 /// A lift that goes up and down through the states, while three more counters rise or fall in every round. There are as many guards as states,
 /// and twice as many moves, each with two guards: from each state to the next, and back over a loop of four places. Guard 0 is in a sentence
 /// only, the others hold always.
-pub fn lift(states: i64, sentences: usize, places: i64, rounds: u32) -> Vec<u8> {
+pub fn lift(states: i64, weights: Option<&str>, sentences: usize, places: i64, rounds: u32) -> Vec<u8> {
     let mut records: Vec<String> = (0..states).map(|i| format!("S {}", i << 8 | 1 << (i % 8))).collect();
+    records.extend(weights.map(str::to_string));
     records.push("G 1 0 0 0 1250".to_string());
     for i in 1..states {
         records.push(match i % 4 {
@@ -96,6 +98,11 @@ pub fn lift(states: i64, sentences: usize, places: i64, rounds: u32) -> Vec<u8> 
     records.extend(SENTENCES[..sentences].iter().map(|sentence| sentence.to_string()));
     records.extend((0..places).map(|p| place(p, states, places, rounds)));
     with_right_marks(file(&records))
+}
+
+/// The full size: 213 records, with weights that the guards allow.
+pub fn full(rounds: u32) -> Vec<u8> {
+    lift(32, Some("W 0 9999999 -999999 9999999"), 20, 64, rounds)
 }
 
 /// A place of the lift. Loops of four places and lone places come by turns; the last four places are the endless loop.

@@ -1,4 +1,4 @@
-//! The proved code against plain Rust that does the same computation: reading and taking a file of 212 records, and judging a case file, from
+//! The proved code against plain Rust that does the same computation: reading and taking a file of 213 records, and judging a case file, from
 //! its bytes to its result. Prints the time of a call and the ratio, measured by turns in one run, and the full size with 1 round against
 //! 1,000,000. `check` only compares the two, on these files and on the stored cases (standard input, as tests/cases.py prints them);
 //! `proved NAME` or `plain NAME` makes one call, for counting instructions.
@@ -59,11 +59,11 @@ fn benches() -> [Bench; 5] {
     };
     let file = cases::all_rooms();
     [
-        Bench { name: "212 records", file, proved: proved_marks_held, plain: plain_marks_held, expected: 1_048_575 - LAST, calls: 20 },
+        Bench { name: "213 records", file, proved: proved_marks_held, plain: plain_marks_held, expected: 1_048_575 - LAST, calls: 20 },
         judged("twelve-rounds", cases::TWELVE_ROUNDS.to_vec()),
-        judged("middle", cases::lift(8, 10, 16, 1000)),
-        judged("full-1", cases::lift(32, 20, 64, 1)),
-        judged("full-1000000", cases::lift(32, 20, 64, 1_000_000)),
+        judged("middle", cases::lift(8, None, 10, 16, 1000)),
+        judged("full-1", cases::full(1)),
+        judged("full-1000000", cases::full(1_000_000)),
     ]
 }
 
@@ -111,7 +111,7 @@ fn measure(benches: &[Bench]) {
     assert_alike(benches);
     let (taken, judged) = benches.split_at(1);
     for [a, b] in medians(taken, 400) {
-        println!("212 records read and taken: proved {:.2} us, plain Rust {:.2} us, ratio {:.2}", a / 1000.0, b / 1000.0, a / b);
+        println!("213 records read and taken: proved {:.2} us, plain Rust {:.2} us, ratio {:.2}", a / 1000.0, b / 1000.0, a / b);
     }
     let times = medians(judged, 1000);
     for (Bench { name, file, .. }, [a, b]) in judged.iter().zip(&times) {

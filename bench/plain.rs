@@ -19,6 +19,7 @@ enum Field {
 #[repr(usize)]
 pub enum Kind {
     State,
+    Weights,
     Guard,
     Move,
     Sentence,
@@ -28,6 +29,7 @@ pub enum Kind {
 #[derive(Clone, Copy)]
 enum Sort {
     Propositions,
+    Weight,
     Coefficient,
     Bound,
     Update,
@@ -57,6 +59,9 @@ pub enum Answer {
 pub struct State {
     pub propositions: u16,
 }
+
+// What the counters start with.
+pub type Weights = [i32; COUNTERS];
 
 #[derive(Clone, Copy)]
 pub struct Guard {
@@ -100,7 +105,7 @@ pub struct Place {
 }
 
 pub struct Case {
-    pub count: [usize; 5],
+    pub count: [usize; KINDS],
     // the last loop: its first place, the place behind its last, and whether it is endless
     pub first: usize,
     pub end: usize,
@@ -108,13 +113,16 @@ pub struct Case {
     // what a round of each loop adds to the counters, by the loop's first place; 0 until the loop closes
     pub drifts: [Counters; PLACES],
     pub states: [State; 32],
+    // all 0 where the case has none
+    pub weights: [Weights; 1],
     pub guards: [Guard; 32],
     pub moves: [Move; 64],
     pub sentences: [Form; 20],
     pub places: [Place; PLACES],
 }
 
-const ROOM: [usize; 5] = [32, 32, 64, 20, PLACES];
+const KINDS: usize = 6;
+const ROOM: [usize; KINDS] = [32, 1, 32, 64, 20, PLACES];
 
 impl Move {
     pub fn add_to(&self, counters: &mut Counters) {
@@ -246,6 +254,7 @@ fn rule(kind: Kind, form: u32, x: &[Field; FIELDS], k: usize) -> Rule {
     let f = |n: usize| filled(x[n - 1]);
     match (kind, k, form) {
         (State, 0, _) => Needed(Sort::Propositions),
+        (Weights, 0..=3, _) => Needed(Sort::Weight),
         (Guard, 0..=3, _) => Needed(Sort::Coefficient),
         (Guard, 4, _) => Needed(Sort::Bound),
         (Move, 0 | 1, _) => Needed(Sort::Reference(State)),
@@ -275,7 +284,7 @@ fn range(sort: Sort) -> (i32, i32) {
     match sort {
         Sort::Propositions => (0, 65535),
         Sort::Coefficient => (-999, 999),
-        Sort::Bound => (-999999, 9999999),
+        Sort::Weight | Sort::Bound => (-999999, 9999999),
         Sort::Update => (-9999, 9999),
         Sort::Form => (0, 6),
         Sort::Proposition => (0, 15),
@@ -294,12 +303,13 @@ fn outside(sort: Sort, f: Field) -> bool {
 impl Case {
     pub fn empty() -> Case {
         Case {
-            count: [0; 5],
+            count: [0; KINDS],
             first: 0,
             end: 0,
             endless: false,
             drifts: [[0; COUNTERS]; PLACES],
             states: [State { propositions: 0 }; 32],
+            weights: [[0; COUNTERS]; 1],
             guards: [Guard { coefficients: [0; COUNTERS], bound: 0 }; 32],
             moves: [Move { from: 0, to: 0, updates: [0; COUNTERS], guard1: None, guard2: None }; 64],
             sentences: [Form::True; 20],
@@ -357,7 +367,7 @@ impl Case {
         }
         let absent = |k: usize| match (rule(kind, form, x, k), x[k]) {
             (Rule::Needed(Sort::Reference(to)) | Rule::Optional(Sort::Reference(to)), Field::Number(n)) => self.count[to as usize] as i32 <= n,
-            (Rule::Needed(Sort::Marks), Field::Number(n)) => (n as u32) >> self.count[3] != 0,
+            (Rule::Needed(Sort::Marks), Field::Number(n)) => (n as u32) >> self.sentences() != 0,
             _ => false,
         };
         if let Some(k) = Case::lowest(absent) {
@@ -366,7 +376,7 @@ impl Case {
         if kind != Kind::Place {
             return Answer::Taken;
         }
-        let n = self.count[4];
+        let n = self.places();
         if self.endless && self.end <= n {
             return Answer::Refused(25, 0);
         }
@@ -383,6 +393,7 @@ impl Case {
         let n = self.count[kind as usize];
         match kind {
             Kind::State => self.states[n] = State { propositions: natural(x[0]) as u16 },
+            Kind::Weights => self.weights[n] = [integer(x[0]), integer(x[1]), integer(x[2]), integer(x[3])],
             Kind::Guard => self.guards[n] = Guard { coefficients: four(&x[..4]), bound: integer(x[4]) },
             Kind::Move => {
                 let (guard1, guard2) = (reference(x[6]), reference(x[7]));
@@ -439,6 +450,7 @@ impl Case {
         }
         let kind = match bytes[0] {
             b'S' => Kind::State,
+            b'W' => Kind::Weights,
             b'G' => Kind::Guard,
             b'T' => Kind::Move,
             b'F' => Kind::Sentence,

@@ -1,6 +1,6 @@
 // Plain Rust that judges a case, by the same computation as the proved judge's: one pass forward over the places for the counters, and one
 // backward for each until. Its cost doesn't depend on the number of rounds.
-use crate::plain::{Answer, Case, Counters, Form, LoopMark, COUNTERS, PLACES};
+use crate::plain::{Answer, Case, Counters, Form, Kind, LoopMark, COUNTERS, PLACES};
 
 // Whether something is true in every round of a place, in none, or in some only.
 #[derive(Clone, Copy, PartialEq)]
@@ -93,7 +93,7 @@ fn power(n: u32, within: i64, sum: i64, v: i64) -> i64 {
 impl Run {
     pub fn of(case: &Case) -> Run {
         let mut run = Run { first: [0; PLACES], base: [[0; COUNTERS]; PLACES] };
-        let mut counters = [0; COUNTERS];
+        let mut counters = case.weights[0].map(i64::from);
         let mut first = 0;
         while first < case.places() {
             let mark = case.places[first].mark;
@@ -118,11 +118,11 @@ impl Run {
 
 impl Case {
     pub fn sentences(&self) -> usize {
-        self.count[3]
+        self.count[Kind::Sentence as usize]
     }
 
     pub fn places(&self) -> usize {
-        self.count[4]
+        self.count[Kind::Place as usize]
     }
 
     fn marked(&self, sentence: u8, place: usize) -> bool {

@@ -7,10 +7,13 @@ import os
 import subprocess
 import sys
 
-from cases import TWELVE, pack, stored, with_field
+from cases import TWELVE, pack, spelled, stored, with_field
 from tally import Tally
 
 STATE = pack(["S", "1"])
+PLACE = pack(["P", "0", "0", "1"])
+# as many records of each kind as there is room for, 213 in all: an endless loop of 64 places
+FULL = STATE * 32 + spelled("W 0 0 0 0" + "/G 0 0 0 0 0" * 32 + "/T 0 0 0 0 0 0" * 64 + "/F 0" * 20 + "/P 0 . 1048575 64 . 0" + "/P 0 0 1048575" * 63)
 
 
 def answered(program, data):
@@ -33,7 +36,11 @@ def shapes():
     yield "all NUL", bytes(58), "12 0 0"
     yield "all spaces", b" " * 58, "12 0 0"
     yield "CR LF", STATE[:57] + b"\r\n", "12 0 0"
-    yield "213 records", STATE * 213, "22 32 0"
+    yield "214 states", STATE * 214, "22 32 0"
+    yield "213 records", FULL, "0 0 0"
+    yield "213 records and 57 bytes", FULL + PLACE[:57], "11 213 0"
+    yield "214 records", FULL + PLACE, "22 213 0"
+    yield "214 records and other bytes", FULL + PLACE + bytes(100), "22 213 0"
     yield "100 MB", bytes(100_000_000), "12 0 0"
 
 

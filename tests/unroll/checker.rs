@@ -1,4 +1,4 @@
-//! A separate checker of case files, written from document 01 alone: it unrolls the run moment by moment and looks at every moment.
+//! A separate checker of case files, written from documents 01 and 02 alone: it unrolls the run moment by moment and looks at every moment.
 //! It has no formula for a loop and shares nothing with the proved code. To test the tests, one mistake can be planted in it.
 use crate::library::Answer;
 use crate::mistakes::Mistake::{self, *};
@@ -23,6 +23,11 @@ impl Case {
         let fields = &self.0[P][place];
         let way = (fields[4].is_some() && round > 1) as usize;
         fields[[2, 6][way]].map(|number| (way, number as usize))
+    }
+
+    /// The counters at moment 0: the weights, or 0 where there are none.
+    pub fn start(&self) -> [i64; 4] {
+        self.0[W].first().map_or([0; 4], |weights| std::array::from_fn(|counter| weights[1 + counter].expect("a filled field")))
     }
 
     /// The guards of a move, with the field that names each.
@@ -59,7 +64,7 @@ fn holds(guard: &Fields, counters: &[i64; 4]) -> bool {
 }
 
 /// 24, 31 to 35, or 0.
-fn judge(case: &Case, mistake: Mistake, steps: u64) -> Result<Answer, TooLong> {
+pub fn judge(case: &Case, mistake: Mistake, steps: u64) -> Result<Answer, TooLong> {
     let closed = case.endless().is_some_and(|(first, length)| first + length <= case.0[P].len());
     if case.0[F].is_empty() || !closed {
         return Ok([24, case.0.iter().map(Vec::len).sum(), 0]);
@@ -70,10 +75,16 @@ fn judge(case: &Case, mistake: Mistake, steps: u64) -> Result<Answer, TooLong> {
     if let Some((place, number)) = unconnected(case, mistake) {
         return Ok([32, place, number]);
     }
-    let run = Run::new(case, mistake, steps)?;
+    // guards of moves and sentences see the same run, but for two planted mistakes
+    let run = Run::new(case, if mistake == StartForSentences { StartAtZero } else { mistake }, steps)?;
     if let Some((place, guard)) = run.failing_guard(case)? {
         return Ok([33, place, guard]);
     }
+    let run = match mistake {
+        StartForSentences => Run::new(case, Nothing, steps)?,
+        StartForMoves => Run::new(case, StartAtZero, steps)?,
+        _ => run,
+    };
     let mut truths = Vec::new();
     for (number, sentence) in case.0[F].iter().enumerate() {
         let truth = run.truth(case, sentence, &truths)?;
@@ -117,6 +128,16 @@ pub struct Step {
     pub counters: [i64; 4],
 }
 
+/// The start, with the mistakes in what it is.
+fn planted_start(start: [i64; 4], mistake: Mistake) -> [i64; 4] {
+    match mistake {
+        StartAtZero => [0; 4],
+        StartOfFirst => [start[0]; 4],
+        StartWithoutLast => [start[0], start[1], start[2], 0],
+        _ => start,
+    }
+}
+
 /// The moments before the endless loop and those of its first round.
 pub struct Run {
     pub moments: Vec<Step>,
@@ -130,21 +151,21 @@ pub struct Run {
 struct Until {
     goal: Vec<bool>,
     held: Vec<bool>,
-    weight: Vec<i64>,
+    adds: Vec<i64>,
 }
 
 impl Run {
     pub fn new(case: &Case, mistake: Mistake, steps: u64) -> Result<Run, TooLong> {
         let mut run = Run { moments: Vec::new(), endless: 0, mistake, steps: Cell::new(steps) };
-        let (mut first, mut counters) = (0, [0; 4]);
+        let (mut first, mut counters) = (0, planted_start(case.start(), mistake));
         while first < case.0[P].len() {
             let fields = &case.0[P][first];
             let length = fields[4].unwrap_or(1) as usize;
             let endless = fields[4].is_some() && fields[5].is_none();
             let rounds = if endless { 0 } else { fields[5].unwrap_or(1) };
             run.endless = run.moments.len();
+            run.spend(length as u64 * rounds.max(1) as u64)?;
             for round in 1..=rounds.max(1) {
-                run.spend(length as u64)?;
                 for place in first..first + length {
                     run.enter(case, &mut counters, place, round);
                     let shown = run.shown(place - first, counters);
@@ -170,6 +191,9 @@ impl Run {
         case.add_updates(counters, number);
         if way == 1 {
             self.planted_drift(case, counters, place);
+            if self.mistake == StartEachRound {
+                counters.iter_mut().zip(case.start()).for_each(|(counter, weight)| *counter += weight);
+            }
         }
     }
 
@@ -289,7 +313,10 @@ impl Run {
         Ok(match sentence[1].expect("a form") {
             0 => vec![true; all.len()],
             1 => self.moments.iter().map(|step| case.number(S, case.number(P, step.place, 1), 1) >> operand(2) & 1 == 1).collect(),
-            2 => self.moments.iter().map(|step| holds(&case.0[G][operand(2)], &step.counters)).collect(),
+            2 => {
+                let seen = |moment: usize| if moment == 0 && self.mistake == StartAfterMoment0 { [0; 4] } else { self.moments[moment].counters };
+                all.map(|moment| holds(&case.0[G][operand(2)], &seen(moment))).collect()
+            }
             3 => all.map(|moment| at(2, moment) && at(3, moment)).collect(),
             4 => all.map(|moment| !at(2, moment)).collect(),
             5 => all.map(|moment| at(2, self.next_looked_at(moment))).collect(),
@@ -315,16 +342,16 @@ impl Run {
     /// For each moment, the greatest sum with which an until's goal is reached from it; `enough` or more ends the search.
     pub fn best_sums(&self, sentence: &Fields, lower: &[Vec<bool>], enough: i64) -> Result<Vec<Option<i64>>, TooLong> {
         let operand = |field: usize| &lower[sentence[field].expect("a filled field") as usize];
-        let mut weight = vec![0; self.moments.len()];
+        let mut adds = vec![0; self.moments.len()];
         for field in [5, 7].into_iter().filter(|&field| sentence[field].is_some()) {
             if self.mistake == TermsOnce && field == 7 && sentence[6] == sentence[8] {
                 continue;
             }
-            for (sum, _) in weight.iter_mut().zip(operand(field + 1)).filter(|(_, &truth)| truth) {
+            for (sum, _) in adds.iter_mut().zip(operand(field + 1)).filter(|(_, &truth)| truth) {
                 *sum += sentence[field].expect("a filled field");
             }
         }
-        let until = Until { goal: operand(3).clone(), held: operand(2).clone(), weight };
+        let until = Until { goal: operand(3).clone(), held: operand(2).clone(), adds };
         (0..self.moments.len()).map(|start| self.best_sum(&until, start, enough)).collect()
     }
 
@@ -340,7 +367,7 @@ impl Run {
             let later_round = step.rounds > 1 && step.round > 1;
             let unseen = self.mistake == GrowthCounted && later_round && start + step.length <= moment;
             if until.goal[moment] && !unseen {
-                let own = if self.mistake == GoalCounted { until.weight[moment] } else { 0 };
+                let own = if self.mistake == GoalCounted { until.adds[moment] } else { 0 };
                 best = best.max(Some(sum + own));
                 goal_seen = true;
                 if best >= Some(enough) {
@@ -350,7 +377,7 @@ impl Run {
             if !until.held[moment] && !(self.mistake == CountedUnheld && later_round) {
                 return Ok(best);
             }
-            sum += until.weight[moment];
+            sum += until.adds[moment];
             self.planted_on_leaving(until, start, moment, &mut sum, &mut best);
             moment = self.after(moment);
             if moment == self.endless {
@@ -376,21 +403,21 @@ impl Run {
         }
         let last_round = moment + 1 - step.length..=moment;
         if self.mistake == RoundShort {
-            *sum -= until.weight[last_round].iter().sum::<i64>();
+            *sum -= until.adds[last_round].iter().sum::<i64>();
         } else if self.mistake == ExtraRound {
             let mut beyond = *sum;
             for again in last_round {
                 if until.goal[again] {
                     *best = (*best).max(Some(beyond));
                 }
-                beyond += until.weight[again];
+                beyond += until.adds[again];
             }
         }
     }
 
     /// The two mistakes that take the sums of the endless loop for growing without end.
     fn planted_infinity(&self, until: &Until, round_done: bool) -> bool {
-        let growth: i64 = until.weight[self.endless..].iter().sum();
+        let growth: i64 = until.adds[self.endless..].iter().sum();
         match self.mistake {
             GrowthEndless => round_done,
             EndlessUnheld => growth > 0 && until.goal[self.endless..].contains(&true),

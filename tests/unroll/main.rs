@@ -1,5 +1,5 @@
-//! unroll cases COUNT SEED: case files, answered by the library and by the separate checker: the twelve rounds with fields spelled badly, then
-//! random ones; and mistakes planted in the checker.
+//! unroll cases COUNT SEED: case files, answered by the library and by the separate checker: the twelve rounds, given weights, with fields
+//! spelled badly, then random ones; and mistakes planted in the checker.
 //! unroll stored: the stored cases, as tests/cases.py prints them, from standard input, answered by both.
 mod checker;
 #[path = "../library.rs"]
@@ -12,8 +12,8 @@ mod shapes;
 use checker::check;
 use library::{Answer, RESULTS};
 use mistakes::{Mistake, MISTAKES};
-use random::{misspelled, random_file, Random};
-use reader::{Case, Fields, F, P, ROOM, T};
+use random::{misspelled, random_file, weighted, Random};
+use reader::{Case, Fields, F, KINDS, P, ROOM, T};
 use shapes::{shapes, SHAPES};
 use std::collections::BTreeMap;
 use std::process::exit;
@@ -48,7 +48,7 @@ struct Seen {
     /// Accepted cases with both the loop and the until.
     rich: usize,
     /// By kind, cases that were taken whole and fill the room.
-    full: [usize; 5],
+    full: [usize; KINDS],
     /// By shape, cases that have it and whose run was followed.
     shaped: [usize; SHAPES.len()],
     /// By how many cases each mistake is found, up to `FOUND`.
@@ -67,7 +67,7 @@ impl Seen {
                 *times += (items.len() == room) as usize;
             }
             if answer[0] == 0 || answer[0] > 32 {
-                self.shaped.iter_mut().zip(shapes(&case)).for_each(|(times, has)| *times += has as usize);
+                self.shaped.iter_mut().zip(shapes(&case, answer)).for_each(|(times, has)| *times += has as usize);
             }
         }
         for (times, (mistake, _)) in self.found.iter_mut().zip(MISTAKES) {
@@ -93,7 +93,7 @@ impl Seen {
         let lacks = [
             (!results.is_empty(), format!("results seen too seldom, and how often: {results:?}")),
             (self.full.iter().any(|times| seldom(times)), format!("too few cases that fill the room of a kind: {:?}", self.full)),
-            (!unlike.is_empty(), format!("counted loops seen too seldom, and in how many of 100 cases: {unlike:?}")),
+            (!unlike.is_empty(), format!("plans seen too seldom, and in how many of 100 cases: {unlike:?}")),
             (accepted * 4 < self.compared, format!("only {accepted} cases are accepted")),
             (self.rich * 2 < accepted, format!("only {} accepted cases have a guarded loop and a counting until", self.rich)),
             (self.too_long * 100 > self.compared, format!("{} cases are too long", self.too_long)),
@@ -107,8 +107,8 @@ impl Seen {
 fn cases(count: usize, seed: u64) -> bool {
     let mut r = Random(seed);
     let results = RESULTS.iter().map(|&result| (result, 0)).collect();
-    let mut seen = Seen { results, rich: 0, full: [0; 5], shaped: [0; SHAPES.len()], found: vec![0; MISTAKES.len()], compared: 0, too_long: 0 };
-    for bytes in misspelled(TWELVE).into_iter().chain(std::iter::repeat_with(|| random_file(&mut r))) {
+    let mut seen = Seen { results, rich: 0, full: [0; KINDS], shaped: [0; SHAPES.len()], found: vec![0; MISTAKES.len()], compared: 0, too_long: 0 };
+    for bytes in misspelled(&weighted(TWELVE)).into_iter().chain(std::iter::repeat_with(|| random_file(&mut r))) {
         if seen.compared == count {
             break;
         }
@@ -127,7 +127,7 @@ fn cases(count: usize, seed: u64) -> bool {
     }
     let found = seen.found.iter().filter(|&&times| times == FOUND).count();
     println!("unroll: how often each result: {:?}; cases that fill a room: {:?}", seen.results, seen.full);
-    println!("unroll: counted loops, and in how many of 100 cases: {:?}", seen.shares());
+    println!("unroll: plans, and in how many of 100 cases: {:?}", seen.shares());
     println!("unroll: cases: {count} passed, 0 failed; they find {found} of {} planted mistakes", MISTAKES.len());
     seen.enough()
 }

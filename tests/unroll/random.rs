@@ -37,8 +37,8 @@ impl Random {
 /// Steps allowed while a plan is made.
 const STEPS: u64 = 30_000;
 /// What a field can spell.
-const HIGHEST: i64 = 9_999_999;
-const LOWEST: i64 = -999_999;
+pub const HIGHEST: i64 = 9_999_999;
+pub const LOWEST: i64 = -999_999;
 
 fn fields(contents: &[Option<i64>]) -> Fields {
     let mut fields = [None; 9];
@@ -61,6 +61,18 @@ fn record(kind: usize, fields: &Fields) -> Vec<u8> {
     }
     bytes.push(b'\n');
     bytes
+}
+
+/// A record of weights: numbers of all sizes, and often an end of what a field can spell; sometimes all 0.
+fn weights(r: &mut Random) -> Fields {
+    if r.chance(5) {
+        return filled(&[0; 4]);
+    }
+    filled(&[0; 4].map(|_| {
+        let most = 10_i64.pow(r.below(8) as u32);
+        let any = r.between(-most, most).clamp(LOWEST, HIGHEST);
+        r.pick(&[any, any, any, LOWEST, any, any, any, HIGHEST])
+    }))
 }
 
 /// The file of a random plan, half of them damaged; a few are any bytes.
@@ -94,6 +106,9 @@ impl Maker<'_> {
         for _ in 0..states {
             let propositions = self.r.between(0, if self.wide { 65_535 } else { 7 });
             self.case.0[S].push(filled(&[propositions]));
+        }
+        if self.r.chance(50) {
+            self.case.0[W].push(weights(self.r));
         }
         let longest = if self.r.chance(1) { 16 } else { 3 };
         let loops = if self.r.chance(5) { 0 } else { self.r.pick(&[1, 1, 2, 2, 2, 3]) };
@@ -186,23 +201,31 @@ impl Maker<'_> {
         if taken(&first, 2) {
             uses.push(std::array::from_fn(|counter| first.counters[counter] + drift[counter]));
         }
-        let mut guard = self.coefficients(self.wide);
-        if guard_sum(&guard, &drift) < 0 && !(self.slips && self.r.chance(20)) {
-            (1..5).for_each(|counter| guard[counter] = guard[counter].map(|coefficient| -coefficient));
-        }
+        let mut guard = self.coefficients(self.wide, &drift)?;
         let least = uses.iter().map(|counters| guard_sum(&guard, counters)).min().unwrap_or(self.r.between(-5, 5));
         let room = self.r.pick(&[0, 0, 0, 0, 0, 1, 2, 999_999]);
         guard[5] = Some((least - room).clamp(LOWEST, HIGHEST));
         (guard[5] <= Some(least)).then_some(guard)
     }
 
-    fn coefficients(&mut self, wide: bool) -> Fields {
+    /// Coefficients of a guard whose sum at the start is a bound that a field can spell; none where a few draws give no such.
+    fn coefficients(&mut self, wide: bool, drift: &[i64; 4]) -> Option<Fields> {
+        let start = self.case.start();
+        let mut draws = std::iter::repeat_with(|| self.any_coefficients(wide, drift)).take(8);
+        draws.find(|guard| (LOWEST..=HIGHEST).contains(&guard_sum(guard, &start)))
+    }
+
+    /// Coefficients with which the drift's sum isn't below 0, but for slips.
+    fn any_coefficients(&mut self, wide: bool, drift: &[i64; 4]) -> Fields {
         let most = if wide { 999 } else { 2 };
         let mut guard = filled(&[0, 0, 0, 0, 0]);
         for counter in 1..=self.r.pick(&[1, 1, 2, 4]) {
             guard[counter] = Some(self.r.between(-most, most));
         }
         guard[1..5].rotate_left(self.r.below(4));
+        if guard_sum(&guard, drift) < 0 && !(self.slips && self.r.chance(20)) {
+            (1..5).for_each(|counter| guard[counter] = guard[counter].map(|coefficient| -coefficient));
+        }
         guard
     }
 
@@ -267,7 +290,7 @@ impl Maker<'_> {
         if count >= 32 || count > 0 && self.r.chance(20) {
             return Some(self.r.below(count) as i64);
         }
-        let mut guard = self.coefficients(false);
+        let mut guard = self.coefficients(false, &[0; 4])?;
         let sum = guard_sum(&guard, &run.moments[self.r.below(run.moments.len())].counters);
         let far = self.r.pick(&[LOWEST, -99_999, 999_999, 1_000_000, HIGHEST]);
         guard[5] = Some(if self.r.chance(95) { (sum + self.r.pick(&[0, 0, 1, 1, 2])).clamp(LOWEST, HIGHEST) } else { far });
@@ -354,6 +377,13 @@ fn one_byte_off() -> Vec<[u8; WIDTH]> {
     rights.into_iter().flat_map(|&right| (0..WIDTH).flat_map(move |at| BYTES.map(|byte| off(right, at, byte)))).collect()
 }
 
+/// The file with a record of weights, all 0, behind its states.
+pub fn weighted(file: &[u8]) -> Vec<u8> {
+    let states = file.chunks(LENGTH).take_while(|bytes| bytes[0] == LETTERS[S]).count();
+    let (before, after) = file.split_at(states * LENGTH);
+    [before, &record(W, &filled(&[0; 4])), after].concat()
+}
+
 /// What is written in a file: in a record, in one field or in two, a text.
 type Change<'a> = (usize, Vec<(usize, &'a [u8])>);
 
@@ -396,11 +426,12 @@ impl Damaged<'_> {
         if self.bytes.len() < LENGTH || self.case.0[F].is_empty() {
             return;
         }
-        match self.r.below(26) {
+        match self.r.below(30) {
             0..=8 => self.damage_plan(),
             9..=14 => self.damage_number(),
             15..=19 => self.damage_bytes(),
-            _ => self.damage_records(),
+            20..=25 => self.damage_records(),
+            _ => self.damage_weights(),
         }
     }
 
@@ -416,7 +447,7 @@ impl Damaged<'_> {
 
     /// An item of some kind, mostly a place: its kind, its number, and that of its record.
     fn some_item(&mut self) -> (usize, usize, usize) {
-        let kinds: Vec<usize> = [S, G, T, F, P, P, P].into_iter().filter(|&kind| !self.case.0[kind].is_empty()).collect();
+        let kinds: Vec<usize> = [S, W, G, T, F, P, P, P].into_iter().filter(|&kind| !self.case.0[kind].is_empty()).collect();
         let kind = self.r.pick(&kinds);
         let item = self.r.below(self.case.0[kind].len());
         (kind, item, (self.start(kind) + item).min(self.records() - 1))
@@ -467,10 +498,11 @@ impl Damaged<'_> {
         let (kind, ..) = self.some_item();
         let number = self.r.between(1, 8) as usize;
         let moves = self.case.0[T].len();
-        match self.r.below(6) {
+        match self.r.below(7) {
             0..=2 => self.put_in_some(kind, number, |r, content| content + r.pick(&[-1, 1])),
             3 => self.put_in_some(G, 5, |r, bound| bound + r.pick(&[-1, 1, 1, 2])),
             4 => self.put_in_some(F, 4, |r, bound| bound + r.pick(&[-1, 1])),
+            5 => self.put_in_some(W, 1 + number % 4, |r, weight| weight + r.pick(&[-1, 1])),
             _ => self.put_in_some(P, 2 + 4 * (number % 2), |r, _| r.below(moves) as i64),
         }
     }
@@ -495,8 +527,23 @@ impl Damaged<'_> {
                 let byte = self.r.below(self.bytes.len());
                 self.bytes[byte] = if self.r.chance(70) { self.r.pick(b" 0-1,9\nSP") } else { self.r.below(256) as u8 };
             }
-            _ => self.bytes[at * LENGTH + self.r.pick(&[0, LENGTH - 1])] = self.r.pick(b"SGTFPsgW \r\n"),
+            _ => self.bytes[at * LENGTH + self.r.pick(&[0, LENGTH - 1])] = self.r.pick(b"SWGTFPsgwX \r\n"),
         }
+    }
+
+    /// One more record of weights: anywhere, or behind the states and the weights, where a field may be missing or one too many; or a state there.
+    fn damage_weights(&mut self) {
+        let (mut kind, mut fields, mut at) = (W, weights(self.r), self.start(G).min(self.records()));
+        let (missing, extra, content) = (self.r.below(4) + 1, self.r.below(4) + 5, Some(self.r.pick(&NUMBERS)));
+        match self.r.below(10) {
+            0 | 1 => fields[missing] = None,
+            2 | 3 => fields[extra] = content,
+            4 => (fields[missing], fields[extra]) = (None, content),
+            5 | 6 => at = self.r.below(self.records() + 1),
+            7 => (kind, fields) = (S, filled(&[0])),
+            _ => {}
+        }
+        self.bytes.splice(at * LENGTH..at * LENGTH, record(kind, &fields));
     }
 
     /// Whole records, and the end of the file.

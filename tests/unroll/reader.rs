@@ -1,4 +1,4 @@
-//! Reading a case file by document 01: the records, and the refusals 11 to 26.
+//! Reading a case file by documents 01 and 02: the records, and the refusals 11 to 26.
 use crate::library::Answer;
 use crate::mistakes::Mistake::{self, *};
 
@@ -8,16 +8,18 @@ type Refusal = (usize, usize);
 pub type Fields = [Option<i64>; 9];
 /// The items of each kind, in the order of the letters.
 #[derive(Clone, Default)]
-pub struct Case(pub [Vec<Fields>; 5]);
+pub struct Case(pub [Vec<Fields>; KINDS]);
 pub const LENGTH: usize = 58;
 pub const WIDTH: usize = 7;
-pub const LETTERS: &[u8; 5] = b"SGTFP";
-pub const ROOM: [usize; 5] = [32, 32, 64, 20, 64];
+pub const KINDS: usize = 6;
+pub const LETTERS: &[u8; KINDS] = b"SWGTFP";
+pub const ROOM: [usize; KINDS] = [32, 1, 32, 64, 20, 64];
 pub const S: usize = 0;
-pub const G: usize = 1;
-pub const T: usize = 2;
-pub const F: usize = 3;
-pub const P: usize = 4;
+pub const W: usize = 1;
+pub const G: usize = 2;
+pub const T: usize = 3;
+pub const F: usize = 4;
+pub const P: usize = 5;
 
 /// The case of a file, or the refusal of its first refused record.
 pub fn read(bytes: &[u8], mistake: Mistake) -> Result<Case, Answer> {
@@ -89,11 +91,12 @@ pub fn spelled(content: Option<i64>) -> String {
     content.map_or(" ".repeat(WIDTH), |number| format!("{number:>WIDTH$}"))
 }
 
-/// What fields 1 to 8 of a kind and form are: w propositions, c coefficient, b bound, s state, t move, g guard, u update, f form,
+/// What fields 1 to 8 of a kind and form are: w propositions, a weight, c coefficient, b bound, s state, t move, g guard, u update, f form,
 /// p proposition, x sentence, m marks, l loop length, r rounds, - to be left blank.
 fn sorts(kind: usize, form: Option<i64>) -> &'static [u8; 8] {
     match (kind, form.unwrap_or(0)) {
         (S, _) => b"w-------",
+        (W, _) => b"aaaa----",
         (G, _) => b"ccccb---",
         (T, _) => b"ssuuuugg",
         (P, _) => b"stmlrt--",
@@ -133,7 +136,8 @@ fn in_range(sort: u8, number: i64, mistake: Mistake) -> bool {
         b'l' => (1, 64),
         b'r' => (1, 1_000_000),
         b'b' if mistake == EvenBounds => (-999_999, 999_999),
-        b'b' => return true,
+        b'a' if mistake == EvenWeights => (-999_999, 999_999),
+        b'a' | b'b' => return true,
         _ => (0, 63),
     };
     low <= number && number <= high
@@ -147,7 +151,8 @@ fn from_input(record: &[u8], mistake: Mistake) -> Result<(usize, Fields), Refusa
     if record[LENGTH - 1] != b'\n' {
         return Err((12, 0));
     }
-    let kind = LETTERS.iter().position(|&letter| letter == record[0]).ok_or((13, 0))?;
+    let known = |kind: &usize| !(mistake == LetterUnknown && *kind == W);
+    let kind = LETTERS.iter().position(|&letter| letter == record[0]).filter(known).ok_or((13, 0))?;
     let fields = contents(record, mistake)?;
     if kind == F && mistake != FormLate && fields[1].is_some_and(|form| !in_range(b'f', form, mistake)) {
         return Err((16, 1));
@@ -169,8 +174,14 @@ fn first([one, other]: [Option<Refusal>; 2], swapped: bool) -> Result<(), Refusa
 
 /// 21 to 26, or nothing.
 fn from_state(case: &Case, kind: usize, fields: &Fields, mistake: Mistake) -> Result<(), Refusal> {
-    let late = case.0[kind + 1..].iter().any(|items| !items.is_empty());
-    let full = case.0[kind].len() >= ROOM[kind] + (mistake == OneMore) as usize;
+    let later = match (mistake, kind) {
+        (WeightsFirst, S) => G,
+        (WeightsLate, W) => KINDS,
+        _ => kind + 1,
+    };
+    let late = case.0[later..].iter().any(|items| !items.is_empty());
+    let more = matches!((mistake, kind), (OneMore, _) | (SecondWeights, W));
+    let full = case.0[kind].len() >= ROOM[kind] + more as usize;
     first([late.then_some((21, 0)), full.then_some((22, 0))], mistake == RoomFirst)?;
     for number in 1..=8 {
         let Some(content) = fields[number] else { continue };

@@ -1,4 +1,9 @@
-//! What plans must be like for a wrong sum of a round to show: several counted loops, of one place and of more, next to each other and apart.
+//! What plans must be like for a wrong sum of a round to show: several counted loops, of one place and of more, next to each other and apart; and for
+//! a wrong start: weights of all sizes, which the answer depends on.
+use crate::checker::judge;
+use crate::library::Answer;
+use crate::mistakes::Mistake;
+use crate::random::{HIGHEST, LOWEST};
 use crate::reader::*;
 use std::ops::Range;
 
@@ -18,23 +23,46 @@ impl Loop {
     }
 }
 
-type Shape = (&'static str, usize, fn(&[Loop]) -> bool);
-/// The words for a shape, how many of a hundred cases must have it at least, and whether counted loops have it.
-pub const SHAPES: [Shape; 7] = [
-    ("two counted loops or more", 33, |loops| loops.len() >= 2),
-    ("two of 2 rounds or more that add differently", 25, |loops| {
-        let again: Vec<&Loop> = loops.iter().filter(|each| each.rounds > 1).collect();
+/// Steps allowed for judging a plan without its weights; one that takes more isn't called refused.
+const STEPS: u64 = 20_000;
+
+/// A plan: its counted loops, its weights, and whether it is accepted with them and refused without.
+pub struct Plan {
+    loops: Vec<Loop>,
+    weights: Vec<i64>,
+    start_matters: bool,
+}
+
+type Shape = (&'static str, usize, fn(&Plan) -> bool);
+/// The words for a shape, how many of a hundred cases must have it at least, and whether a plan has it.
+pub const SHAPES: [Shape; 11] = [
+    ("two counted loops or more", 33, |plan| plan.loops.len() >= 2),
+    ("two counted loops of 2 rounds or more that add differently", 25, |plan| {
+        let again: Vec<&Loop> = plan.loops.iter().filter(|each| each.rounds > 1).collect();
         again.windows(2).any(|pair| pair[0].adds != pair[1].adds)
     }),
-    ("one of 1 place", 20, |loops| loops.iter().any(|each| each.places.len() == 1)),
-    ("one of more places", 33, |loops| loops.iter().any(|each| each.places.len() > 1)),
-    ("one at place 0", 20, |loops| loops.iter().any(|each| each.places.start == 0)),
-    ("two next to each other", 15, |loops| loops.windows(2).any(|pair| pair[0].places.end == pair[1].places.start)),
-    ("two apart", 15, |loops| loops.windows(2).any(|pair| pair[0].places.end < pair[1].places.start)),
+    ("a counted loop of 1 place", 20, |plan| plan.loops.iter().any(|each| each.places.len() == 1)),
+    ("a counted loop of more places", 33, |plan| plan.loops.iter().any(|each| each.places.len() > 1)),
+    ("a counted loop at place 0", 20, |plan| plan.loops.iter().any(|each| each.places.start == 0)),
+    ("two counted loops next to each other", 15, |plan| plan.loops.windows(2).any(|pair| pair[0].places.end == pair[1].places.start)),
+    ("two counted loops apart", 15, |plan| plan.loops.windows(2).any(|pair| pair[0].places.end < pair[1].places.start)),
+    ("weights", 25, |plan| !plan.weights.is_empty()),
+    ("a lowest weight", 12, |plan| plan.weights.contains(&LOWEST)),
+    ("a highest weight", 9, |plan| plan.weights.contains(&HIGHEST)),
+    ("accepted with its weights only", 11, |plan| plan.start_matters),
 ];
 
-/// Which of the shapes a case has.
-pub fn shapes(case: &Case) -> [bool; SHAPES.len()] {
-    let loops: Vec<Loop> = (0..case.0[P].len()).filter_map(|first| Loop::at(case, first)).collect();
-    SHAPES.map(|(_, _, has)| has(&loops))
+/// Which of the shapes a case has that got this answer.
+pub fn shapes(case: &Case, answer: Answer) -> [bool; SHAPES.len()] {
+    let loops = (0..case.0[P].len()).filter_map(|first| Loop::at(case, first)).collect();
+    let weights: Vec<i64> = case.0[W].iter().flatten().flatten().copied().collect();
+    let start_matters = answer[0] == 0 && !weights.is_empty() && refused_without_weights(case);
+    let plan = Plan { loops, weights, start_matters };
+    SHAPES.map(|(_, _, has)| has(&plan))
+}
+
+fn refused_without_weights(case: &Case) -> bool {
+    let mut without = case.clone();
+    without.0[W].clear();
+    judge(&without, Mistake::Nothing, STEPS).is_ok_and(|answer| answer[0] != 0)
 }
