@@ -58,7 +58,7 @@ pub fn stored(program: &str, other: impl Fn(&[u8]) -> Option<Answer>) -> bool {
         }
     }
     println!("{program}: stored cases: {passed} passed, {failed} failed; {given_up} were too long for the other checker");
-    if !missing.is_empty() || given_up * 100 > passed {
+    if !missing.is_empty() || given_up * 50 > passed {
         println!("{program}: no stored case has one of the results {missing:?}, or too many were too long");
         return false;
     }
