@@ -72,10 +72,10 @@ const SENTENCES: [&str; 20] = [
     "F 6 7 4 0 -502 16 54 7",
 ];
 
-/// A lift that goes up and down through the states, while three more counters rise or fall in every round. There are as many guards as states,
+/// A plan that goes up and down through the states, while three more counters rise or fall in every round. There are as many guards as states,
 /// and twice as many moves, each with two guards: from each state to the next, and back over a loop of four places. Guard 0 is in a sentence
 /// only, the others hold always.
-pub fn lift(states: i64, weights: Option<&str>, sentences: usize, places: i64, rounds: u32) -> Vec<u8> {
+pub fn plan(states: i64, weights: Option<&str>, sentences: usize, places: i64, rounds: u32) -> Vec<u8> {
     let mut records: Vec<String> = (0..states).map(|i| format!("S {}", i << 8 | 1 << (i % 8))).collect();
     records.extend(weights.map(str::to_string));
     records.push("G 1 0 0 0 1250".to_string());
@@ -102,10 +102,10 @@ pub fn lift(states: i64, weights: Option<&str>, sentences: usize, places: i64, r
 
 /// The full size: 213 records, with weights that the guards allow.
 pub fn full(rounds: u32) -> Vec<u8> {
-    lift(32, Some("W 0 9999999 -999999 9999999"), 20, 64, rounds)
+    plan(32, Some("W 0 9999999 -999999 9999999"), 20, 64, rounds)
 }
 
-/// A place of the lift. Loops of four places and lone places come by turns; the last four places are the endless loop.
+/// A place of the plan. Loops of four places and lone places come by turns; the last four places are the endless loop.
 fn place(p: i64, states: i64, places: i64, rounds: u32) -> String {
     let way = if p == 0 { ".".to_string() } else { ((p - 1) % states).to_string() };
     let back = states + p % states;

@@ -61,7 +61,7 @@ fn benches() -> [Bench; 5] {
     [
         Bench { name: "213 records", file, proved: proved_marks_held, plain: plain_marks_held, expected: 1_048_575 - LAST, calls: 20 },
         judged("twelve-rounds", cases::TWELVE_ROUNDS.to_vec()),
-        judged("middle", cases::lift(8, None, 10, 16, 1000)),
+        judged("middle", cases::plan(8, None, 10, 16, 1000)),
         judged("full-1", cases::full(1)),
         judged("full-1000000", cases::full(1_000_000)),
     ]
