@@ -304,7 +304,7 @@ module _ (c : Case) (s : Sound c) where
             λ g. by-end (GuardHas (countsOf x)) (x .guards) (noItem kind.Guard) g (guard-held g) (omega arith, zeros-within 999 counters refl);
       }
 
--- no counter is beyond that at the start
+-- no counter is further from 0 than that at the start
 pub starts : {x : Items} → Facts x → (j : ℕ) → Within mostStart (startOf x j)
 unfolding startOf
 starts f = all-at (Within mostStart) _ (pos 0) (f .weights .1) (field-within mostStart (pos 0) refl)
