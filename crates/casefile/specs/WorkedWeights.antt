@@ -53,11 +53,11 @@ sevenHeld =
     ∷ []
 
 -- the file with one record more, as record i
-abbrev pub withMore : ℕ → String → List String
+abbrev withMore : ℕ → String → List String
 withMore i r = take i sevenHeld ++ (r ∷ drop i sevenHeld)
 
--- a counted loop and then the endless one, both of one place, which add nothing; sentence 0 says that counter 0 is 0 or more. The seven bytes of its
--- starting weight and those of the rounds are left open
+-- a counted loop, whose back move takes 1 from counter 0; then the endless one, which adds nothing, and guard 0 on the way there asks that counter 0 is 0 or
+-- more. So n rounds want a starting weight of n - 1. The seven bytes of the weight and those of the rounds are left open
 unfoldable pub byWeightAndRounds : String → String → List String
 byWeightAndRounds w n =
     "S      0                                                 \n"
@@ -65,21 +65,23 @@ byWeightAndRounds w n =
     ∷ w
     ∷ "      0      0      0                            \n"
     ∷ "G      1      0      0      0      0                     \n"
-    ∷ "T      0      0      0      0      0      0              \n"
-    ∷ "F      2      0                                          \n"
+    ∷ "T      0      0     -1      0      0      0              \n"
+    ∷ "T      0      0      0      0      0      0      0       \n"
+    ∷ "F      0                                                 \n"
     ∷ "P      0             1      1"
     ∷ n
     ∷ "      0              \n"
-    ∷ "P      0      0      1      1             0              \n"
+    ∷ "P      0      1      1      1             1              \n"
     ∷ []
 
 -- the files and their numbers
 unfoldable pub weighed : List Worked
 weighed =
-    -- demand 3 speaks of equal starting weights: from 0, 1 round and 3 rounds are accepted; from -1, 2 rounds are not
-    (byWeightAndRounds "      0" "      1", numbers 0 0 0)
-    ∷ (byWeightAndRounds "     -1" "      2", numbers 34 0 0)
-    ∷ (byWeightAndRounds "      0" "      3", numbers 0 0 0)
+    -- demand 3 speaks of equal starting weights: 1 round is accepted from 9 and 3 rounds from 2, but 2 rounds are not from 0, though 1 round is
+    (byWeightAndRounds "      9" "      1", numbers 0 0 0)
+    ∷ (byWeightAndRounds "      0" "      2", numbers 33 1 0)
+    ∷ (byWeightAndRounds "      2" "      3", numbers 0 0 0)
+    ∷ (byWeightAndRounds "      0" "      1", numbers 0 0 0)
     -- the sum is at the bound
     ∷ (sevenHeld, numbers 0 0 0)
     -- with one less in the last counter it is below: the guard of the move fails; a move without a guard leaves the sentence, which is false at moment 0 too
@@ -123,9 +125,9 @@ weighed-said = all-said weighed weighed-answers
 -- three files alike in every byte but the rounds field of one counted loop, which spells 1, 2 and 3, and one starting weight: the first and the last are
 -- accepted, and the one between is not
 pub unequal-weights :
-    FileAccepted (bytesOf (byWeightAndRounds "      0" "      1"))
-    × (FileAccepted (bytesOf (byWeightAndRounds "     -1" "      2")) → ⊥)
-    × FileAccepted (bytesOf (byWeightAndRounds "      0" "      3"))
+    FileAccepted (bytesOf (byWeightAndRounds "      9" "      1"))
+    × (FileAccepted (bytesOf (byWeightAndRounds "      0" "      2")) → ⊥)
+    × FileAccepted (bytesOf (byWeightAndRounds "      2" "      3"))
 unfolding weighed
 unequal-weights =
     let is : (i : ℕ) → _ = λ i. ap (λ (l : List Told). getD l i (numbers 0 0 0) .result) weighed-answers in

@@ -1,5 +1,5 @@
--- How far a run goes before the endless loop and in its first round: no counter is further than 640,000,000,000 from where it is at the start.
--- Assumes nothing.
+-- How far a run goes before the endless loop and in its first round: from counters within b, no counter passes 640,000,000,000 + b either way, and no
+-- guard sum 999 times that for each counter. Assumes nothing.
 use mathlib.Core.Path.{_≡_, refl}
 use mathlib.Core.Logic.{_⊎_, inl, inr, ⊎-elim}
 use mathlib.Core.List.{List}

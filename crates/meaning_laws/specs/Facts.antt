@@ -48,7 +48,7 @@ Refers i (form.Until a b z t u) = (a < i) × (b < i) × TermRefers i t × TermRe
 abbrev pub mostStart : ℕ
 mostStart = 10000000
 
--- starting weights: one for each counter, none further from 0 than that
+-- starting weights: one for each counter, none further from 0 than `mostStart`
 abbrev pub StartHas : Weights → Type 0
 StartHas w = (length (w .at) ≡ counters) × All (Within mostStart) (w .at)
 

@@ -40,7 +40,6 @@ use Rattle.items.specs.declared.Form.{Form}
 use Rattle.items.specs.declared.Form.the-variants as form
 use Rattle.items.specs.declared.LoopMark.{LoopMark}
 use Rattle.items.specs.declared.LoopMark.the-variants as mark
-use Rattle.items.specs.declared.Weights.{Weights}
 use Rattle.items.specs.declared.Guard.{Guard}
 use Rattle.items.specs.declared.Move.{Move}
 use Rattle.items.specs.declared.Sentence.{Sentence}
@@ -131,9 +130,6 @@ MarkHas n (mark.Counted l r b) = (1 ≤ l) × (b < n) × (1 ≤ r) × (r ≤ 100
 MarkHas n (mark.Endless l b) = (1 ≤ l) × (b < n)
 
 -- what an item of each kind has that the meaning reads, where so many items are held
-abbrev WeightsHas : Counts → Weights → Type 0
-WeightsHas n = StartHas
-
 abbrev GuardHas : Counts → Guard → Type 0
 GuardHas n x = (length (x .coefficients .at) ≤ counters) × All (Within 999) (x .coefficients .at)
 
@@ -151,7 +147,7 @@ module _ (n : Counts) where
   abbrev Given : (k : Kind) → (Counts → Item k → Type 0) → Item k → Type 0
   Given k P x = Fit k (rowOf k x) → Held n k (rowOf k x) → P n x
 
-  weights-has : (r : List Field) → Given kind.Weights WeightsHas (weightsOf r)
+  weights-has : (r : List Field) → Given kind.Weights (λ n. StartHas) (weightsOf r)
   unfolding rowOf ruleAt shapeOf weightsOf
   weights-has r f t = (
     refl,
@@ -252,8 +248,8 @@ module _ (c : Case) (s : Sound c) where
       subst (λ m. P (reach m k i) y) (counts-are c s)
       (subst (Given n k P) (s .read k i l) (has n (rowOf k y)) (s .fit k i l) (λ f. tells-false _ (tells-there k _ f n) (s .there k i l f)))
 
-  weights-held : (i : ℕ) → i < length (x .weights) → WeightsHas (countsOf x) (getD (x .weights) i (noItem kind.Weights))
-  weights-held = held kind.Weights WeightsHas weights-has
+  weights-held : (i : ℕ) → i < length (x .weights) → StartHas (getD (x .weights) i (noItem kind.Weights))
+  weights-held = held kind.Weights (λ n. StartHas) weights-has
 
   guard-held : (i : ℕ) → i < length (x .guards) → GuardHas (countsOf x) (getD (x .guards) i (noItem kind.Guard))
   guard-held = held kind.Guard GuardHas guard-has
@@ -304,7 +300,7 @@ module _ (c : Case) (s : Sound c) where
             λ g. by-end (GuardHas (countsOf x)) (x .guards) (noItem kind.Guard) g (guard-held g) (omega arith, zeros-within 999 counters refl);
       }
 
--- no counter is further from 0 than that at the start
+-- no counter is further from 0 than `mostStart` at the start
 pub starts : {x : Items} → Facts x → (j : ℕ) → Within mostStart (startOf x j)
 unfolding startOf
 starts f = all-at (Within mostStart) _ (pos 0) (f .weights .1) (field-within mostStart (pos 0) refl)

@@ -1,7 +1,7 @@
 -- What is proved of the meaning: start here. In the crate meaning, the run is in Run.antt, truth in Truth.antt, acceptance and each answer in Judged.antt,
 -- demand 2 in its own words in Paper.antt, the files that are accepted in Files.antt. `Sound` is the invariant of every case that records make (crate
 -- collector). Assumes nothing.
-use mathlib.Core.Path.{_≡_}
+use mathlib.Core.Path.{_≡_, sym, subst}
 use mathlib.Core.Logic.{_↔_, _⊎_}
 use mathlib.Core.List.{List, _++_}
 use mathlib.Core.Bool.{true}
@@ -35,7 +35,7 @@ use Rattle.meaning.specs.Judged.{Finished, IsAccepted, Judged, marked, TrueAt, 
 use Rattle.meaning.specs.Paper.{Means}
 use Rattle.meaning.specs.Files.{FileAccepted, roundsAt}
 use Rattle.meaning.specs.Rounds.{withRounds}
-use Rattle.meaning_laws.specs.Facts.{mostStart}
+use Rattle.meaning_laws.specs.Facts.{mostStart, start-with}
 use Rattle.meaning_laws.specs.Given.{facts, starts}
 use Rattle.meaning_laws.specs.Answers as answers
 use Rattle.meaning_laws.specs.Second as second
@@ -76,10 +76,10 @@ pub same-truth : (gs : List Guard) (fs : List Sentence) (t u : Trace) →
     (s : ℕ) (i : Moment) → True gs fs t s i ≡ True gs fs u s i
 same-truth = answers.same-truth
 
--- ---- document 01's ceilings
+-- ---- the ceilings of documents 01 and 02
 
--- from counters within b: before the end of the endless loop's first round no counter is further than 640,000,000,000 from there, and a guard's sum is at
--- most 999 times as much for each counter
+-- from counters within b: before the end of the endless loop's first round no counter passes 640,000,000,000 + b either way, and no sum of a guard 999 times
+-- that for each counter
 pub counter-ceiling-from : (c : Case) → Sound c → (θ : Valuation) (b : ℕ) → ((j : ℕ) → Within b (θ j)) →
     (m : Moment) → Early (itemsOf c .places) m → (j : ℕ) → Within (640000000000 + b) (countersAt (itemsOf c) θ m j)
 counter-ceiling-from c s = ceilings.counter-ceiling (itemsOf c) (facts c s)
@@ -112,8 +112,11 @@ between c s = third.between (itemsOf c) (facts c s)
 pub between-own : (c : Case) → Sound c → (p l n back : ℕ) → p < length (itemsOf c .places) → markAt (itemsOf c .places) p ≡ mark.Counted l n back →
     (i j k : ℕ) → 1 ≤ i → i ≤ j → j ≤ k → let own : ℕ → Type 0 = λ m. IsAccepted (withRounds (itemsOf c) p m) (startOf (withRounds (itemsOf c) p m)) in
     own i → own k → own j
-unfolding startOf
-between-own c s p l n back h e i j k a b d = between c s p l n back h e i j k a b d (startOf (itemsOf c))
+between-own c s p l n back h e i j k a b d y z =
+    let x = itemsOf c in
+    let at : ℕ → Valuation → Type 0 = λ m. IsAccepted (withRounds x p m) in
+    subst (at j) (sym (start-with x p j))
+    (between c s p l n back h e i j k a b d (startOf x) (subst (at i) (start-with x p i) y) (subst (at k) (start-with x p k) z))
 
 -- all records of a file are taken by the rules exactly where the collector takes them
 pub all-taken : (bs : List ℕ) → AllTaken (cut bs) ↔ (isTaken (collectedOf emptyCase bs .answer) ≡ true)

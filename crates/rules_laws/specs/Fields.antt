@@ -21,6 +21,7 @@ use Rattle.record.specs.Layout.{fields, at}
 use Rattle.kinds.specs.declared.Kind.{Kind}
 use Rattle.kinds.specs.declared.Kind.the-variants as kind
 use Rattle.kinds.specs.Kinds.{counters}
+use Rattle.kinds.specs.Laws.{each-kind}
 use Rattle.kinds.specs.Contents.{natural, isNumber}
 use Rattle.table.specs.declared.Sort.{Sort}
 use Rattle.table.specs.declared.Sort.the-variants.{Marks, Reference}
@@ -279,12 +280,7 @@ module _ (g : ℕ → Content) where
   sentence-again (Bad i) f = absurd (true≢false (met f 1 .spelled))
 
   again : (k : Kind) (c : Content) → Again k (row c)
-  again kind.State = state-again
-  again kind.Weights = weights-again
-  again kind.Guard = guard-again
-  again kind.Move = move-again
-  again kind.Sentence = sentence-again
-  again kind.Place = place-again
+  again = each-kind (λ k. (c : Content) → Again k (row c)) state-again weights-again guard-again move-again sentence-again place-again
 
 pub fields-again : (k : Kind) (r : List Field) → length r ≡ fields → Fit k r → rowOf k (itemOf k r) ≡ r
 fields-again k r l =

@@ -1,4 +1,4 @@
--- What each kind of record needs, may have and allows (document 01, "The record"): one row of rules for each kind and form, field 1 first.
+-- What each kind of record needs, may have and allows (document 01, "The record"; document 02 for starting weights): one row of rules for each kind and form, field 1 first.
 -- Fields past the end of a row are blank.
 use mathlib.Core.List.{List, [], _∷_, _++_}
 use mathlib.Core.Bool.{Bool, true, false, _||_}
