@@ -1,14 +1,15 @@
 -- Sums and products of integers, for `omega`: z is up z − down z, and each operation is an equation of naturals. `omega (sums, add-rel a b, ..)`
 -- reads _≤ℤ_ in the hypotheses that are listed by `le-out`, and proves it under `le-in`. Assumes nothing.
-use mathlib.Core.Path.{_≡_, refl, sym, _∙_, ap, ap₂}
-use mathlib.Core.Logic.{_⊎_, inl, inr}
+use mathlib.Core.Path.{_≡_, refl, sym, _∙_, ap, ap₂, subst}
+use mathlib.Core.Logic.{_⊎_, inl, inr, ⊎-elim}
 use mathlib.Core.Bool.{Bool, true, false, cond}
 use Prim.Native.Nat.{ℕ, zero, suc, _+_, _≤_, _<_}
 use native.Mathlib.Omega.{arith}
-use lib.Dec.{leb, ltb, leb→le, le→leb, ltb→lt, nltb→le, nleb→lt}
-use lib.IntN.{ℤ, pos, negsuc, _+ℤ_, _*ℤ_, negℤ, subℕ, +ℤ-assoc, +ℤ-idl, sucℤ-*ℤ, predℤ-*ℤ, zero-*ℤ, negℤ-+ℤ}
-use lib.Signed.{_≤ℤ_}
-use Rattle.laws.specs.Order.{up, down}
+use lib.Dec.{T, leb, ltb, leb→le, le→leb, ltb→lt, lt→ltb, nltb→le, nleb→lt}
+use lib.IntN.{ℤ, pos, negsuc, _+ℤ_, _*ℤ_, negℤ, subℕ, +ℤ-assoc, +ℤ-comm, +ℤ-idl, sucℤ-*ℤ, predℤ-*ℤ, zero-*ℤ, negℤ-+ℤ}
+use lib.Signed.{leZ, _≤ℤ_, _<ℤ_}
+use Rattle.laws.specs.Tests.{Tells, tells-not}
+use Rattle.laws.specs.Order.{up, down, test-lt}
 
 -- ---- order and equality
 
@@ -24,6 +25,15 @@ le-in {a = pos m} {b = negsuc n} h = absurd (omega arith)
 le-in {a = negsuc m} {b = pos n} h = record { le = tt }
 le-in {a = negsuc m} {b = negsuc n} h = record { le = le→leb n m (omega arith) }
 
+pub lt-out : {a b : ℤ} → a <ℤ b → up a + down b < up b + down a
+lt-out {a} {b} h = test-lt a b (h .lt)
+
+pub lt-in : {a b : ℤ} → up a + down b < up b + down a → a <ℤ b
+lt-in {a = pos m} {b = pos n} h = record { lt = lt→ltb m n (omega arith) }
+lt-in {a = pos m} {b = negsuc n} h = absurd (omega arith)
+lt-in {a = negsuc m} {b = pos n} h = record { lt = tt }
+lt-in {a = negsuc m} {b = negsuc n} h = record { lt = lt→ltb n m (omega arith) }
+
 pub eq-in : {a b : ℤ} → up a + down b ≡ up b + down a → a ≡ b
 eq-in {a = pos m} {b = pos n} h = let e : m ≡ n = omega arith in ap pos e
 eq-in {a = pos m} {b = negsuc n} h = absurd (omega arith)
@@ -37,6 +47,17 @@ le-or a b = go (leb (up a + down b) (up b + down a)) refl
     go : (t : Bool) → leb (up a + down b) (up b + down a) ≡ t → (a ≤ℤ b) ⊎ (up b + down a < up a + down b)
     go true e = inl (le-in (leb→le (up a + down b) (up b + down a) (rw e tt)))
     go false e = inr (nleb→lt (up a + down b) (up b + down a) (rw e tt))
+
+-- its tests tell
+pub tells-leZ : (a b : ℤ) → Tells (leZ a b) (a ≤ℤ b)
+tells-leZ a b = (λ e. record { le = subst T (sym e) tt }, λ h. is (leZ a b) (h .le))
+  where
+    is : (t : Bool) → T t → t ≡ true
+    is true h = refl
+    is false h = absurd h
+
+pub not-leZ : (a b : ℤ) → leZ b a ≡ false → a <ℤ b
+not-leZ a b e = ⊎-elim (λ h. absurd (tells-not (leZ b a) (tells-leZ b a) e h)) (λ l. lt-in l) (le-or b a)
 
 -- ---- sums
 
@@ -60,6 +81,9 @@ neg-rel (negsuc n) = (refl, refl)
 
 left-comm : (a b c : ℤ) → a +ℤ (b +ℤ c) ≡ b +ℤ (a +ℤ c)
 left-comm a b c = eq-in (omega (arith, add-rel a (b +ℤ c), add-rel b c, add-rel b (a +ℤ c), add-rel a c))
+
+pub swap-last : (a b c : ℤ) → (a +ℤ b) +ℤ c ≡ (a +ℤ c) +ℤ b
+swap-last a b c = simp (+ℤ-assoc, +ℤ-comm)
 
 pub swap-sums : (a b c d : ℤ) → (a +ℤ b) +ℤ (c +ℤ d) ≡ (a +ℤ c) +ℤ (b +ℤ d)
 swap-sums a b c d = simp (+ℤ-assoc, left-comm)

@@ -2,6 +2,7 @@ pub mod Order
 pub mod Signed
 pub mod Arithmetic
 pub mod Sizes
+pub mod Progression
 pub mod Tests
 pub mod Cases
 pub mod Lists

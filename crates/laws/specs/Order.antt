@@ -22,7 +22,7 @@ test-le (pos a) (negsuc b) t = absurd t
 test-le (negsuc a) (pos b) t = omega arith
 test-le (negsuc a) (negsuc b) t = omega (arith, leb→le b a t)
 
-test-lt : (a b : ℤ) → T (ltZ a b) → up a + down b < up b + down a
+pub test-lt : (a b : ℤ) → T (ltZ a b) → up a + down b < up b + down a
 test-lt (pos a) (pos b) t = omega (arith, ltb→lt a b t)
 test-lt (pos a) (negsuc b) t = absurd t
 test-lt (negsuc a) (pos b) t = omega arith

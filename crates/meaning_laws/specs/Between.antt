@@ -9,6 +9,7 @@ use native.Mathlib.Nat.{eq-or-lt-of-le}
 use lib.IntN.{ℤ, pos, _+ℤ_, _*ℤ_}
 use lib.Signed.{_≤ℤ_}
 use Rattle.laws.specs.Arithmetic.{le-in, le-or, swap-sums, times-sum}
+use Rattle.laws.specs.Progression.{line-zero, line-suc}
 use Rattle.counters.specs.Sum.{Valuation, sum}
 use Rattle.items.specs.declared.Place.{Place}
 use Rattle.meaning.specs.Run.{Moment, here, spot, wayTaken}
@@ -63,6 +64,14 @@ sum-plus [] θ η δ h = refl
 sum-plus (a ∷ l) θ η δ h =
     ap₂ _+ℤ_ (ap (λ z. a *ℤ z) (h 0) ∙ times-sum a (θ 0) (δ 0)) (sum-plus l (λ j. θ (suc j)) (λ j. η (suc j)) (λ j. δ (suc j)) (λ j. h (suc j)))
     ∙ swap-sums (a *ℤ θ 0) (a *ℤ δ 0) (sum l (λ j. θ (suc j))) (sum l (λ j. δ (suc j)))
+
+-- and of counters to which others are added k times
+pub sum-line : (l : List ℤ) (θ δ η : Valuation) (k : ℕ) → ((j : ℕ) → η j ≡ θ j +ℤ pos k *ℤ δ j) → sum l η ≡ sum l θ +ℤ pos k *ℤ sum l δ
+sum-line l θ δ η zero h = sum-same l θ η (λ j. h j ∙ line-zero (θ j) (δ j)) ∙ sym (line-zero (sum l θ) (sum l δ))
+sum-line l θ δ η (suc k) h =
+    sum-plus l (λ j. θ j +ℤ pos k *ℤ δ j) η δ (λ j. h j ∙ line-suc (θ j) (δ j) k)
+    ∙ ap (λ z. z +ℤ sum l δ) (sum-line l θ δ (λ j. θ j +ℤ pos k *ℤ δ j) k (λ j. refl))
+    ∙ sym (line-suc (sum l θ) (sum l δ) k)
 
 -- ---- the runs of a family
 

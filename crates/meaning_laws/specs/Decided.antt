@@ -9,28 +9,20 @@ use lib.ListN.{length, getD}
 use Rattle.laws.specs.Arithmetic.{le-out, le-or}
 use Rattle.kinds.specs.declared.Kind.the-variants as kind
 use Rattle.counters.specs.Sum.{Valuation, sum}
-use Rattle.items.specs.declared.LoopMark.{LoopMark}
-use Rattle.items.specs.declared.LoopMark.the-variants as mark
 use Rattle.items.specs.declared.Form.{Form}
 use Rattle.items.specs.declared.Form.the-variants as form
 use Rattle.items.specs.Lists.{Items, noItem}
-use Rattle.rules.specs.Rules.{markAt, lengthOf, isEndless, Closed}
-use Rattle.meaning.specs.Run.{Moment, here, stretch, goesAgain, spot, guardAt}
+use Rattle.rules.specs.Rules.{markAt, Closed}
+use Rattle.meaning.specs.Run.{Moment, here, stretch, spot, guardAt}
 use Rattle.meaning.specs.Truth.{Says, bit}
 use Rattle.meaning.specs.Judged.{marked, TrueAt, traceOf}
 use Rattle.verdict.specs.Labels.{labelOf}
 use Rattle.meaning_laws.specs.Facts.{Facts, Laid, Refers}
-use Rattle.meaning_laws.specs.Walk.{Reached, reach, in-stretch}
+use Rattle.meaning_laws.specs.Walk.{Reached, in-stretch, endless-goes, reach-endless}
 use Rattle.meaning_laws.specs.Counting.{Decided, gets-decided}
 use Rattle.meaning_laws.specs.Below.{RightBelow, SaysBelow, says-below, until-labels}
 
 -- ---- the endless loop comes again and again
-
--- what an endless loop mark tells
-endless : (k : LoopMark) → isEndless k ≡ true → (stretch k ≡ lengthOf k) × ((r : ℕ) → goesAgain k r ≡ true) × (k ≡ mark.None → ⊥)
-endless mark.None e = absurd (false≢true e)
-endless (mark.Counted l n b) e = absurd (false≢true e)
-endless (mark.Endless l b) e = (refl, λ r. refl, λ q. let z : _≡_ {A = ℕ} 0 1 = cc in omega arith)
 
 -- from some moment on, the run is where it was a round before
 record Recurs (x : Items) : Type 0 where
@@ -54,14 +46,11 @@ comes-again x laid c =
     L : ℕ
     L = stretch (markAt (x .places) q)
 
-    is : (L ≡ lengthOf (markAt (x .places) q)) × ((r : ℕ) → goesAgain (markAt (x .places) q) r ≡ true) × (markAt (x .places) q ≡ mark.None → ⊥)
-    is = endless (markAt (x .places) q) (c .endless)
-
     to : Reached (x .places) q
-    to = reach (x .places) laid q (omega (arith, laid .long q, is .0, c .whole)) (is .2)
+    to = reach-endless x laid c
 
     place : (j r o : ℕ) → j ≡ to .moment + (r * L + o) → o < L → here (spot (x .places) j) ≡ q + o
-    place j r o e h = ap (λ i. here (spot (x .places) i)) e ∙ ap here (in-stretch (x .places) q (to .moment) (laid .long q) (to .there) r o (λ i w. is .1 i) h)
+    place j r o e h = ap (λ i. here (spot (x .places) i)) e ∙ ap here (in-stretch (x .places) q (to .moment) (laid .long q) (to .there) r o (λ i w. endless-goes (markAt (x .places) q) (c .endless) i) h)
 
     by-round : (j r o : ℕ) → to .moment ≤ j → r * L + o ≡ j - to .moment → o < L → here (spot (x .places) (j + L)) ≡ here (spot (x .places) j)
     by-round j r o h e w = place (j + L) (suc r) o (omega arith) w ∙ sym (place j r o (omega arith) w)

@@ -3,6 +3,7 @@ pub mod Given
 pub mod Walk
 pub mod Lists
 pub mod Stays
+pub mod OneRound
 pub mod Answers
 pub mod Second
 pub mod Ceilings
@@ -12,6 +13,8 @@ pub mod Decided
 pub mod Repeats
 pub mod Rounds
 pub mod Between
+pub mod EndlessTimes
+pub mod EndlessGuards
 pub mod Third
 pub mod AllTaken
 pub mod Around

@@ -11,7 +11,7 @@ use lib.IntN.{ℤ, pos, negℤ, _+ℤ_}
 use lib.Signed.{_≤ℤ_}
 use lib.ListN.{length, getD}
 use Rattle.laws.specs.Order.{up, down}
-use Rattle.laws.specs.Arithmetic.{le-out, le-in, eq-in, le-or, add-rel, neg-rel}
+use Rattle.laws.specs.Arithmetic.{le-out, le-in, eq-in, le-or, add-rel, neg-rel, swap-last}
 use Rattle.laws.specs.All.{All}
 use Rattle.laws.specs.Members.{all-map, all-zip}
 use Rattle.kinds.specs.declared.Kind.the-variants as kind
@@ -73,9 +73,6 @@ module _ (x : Items) (f : Facts x) (s l n back : ℕ) (held : s < length (x .pla
   rest : (a b c d : ℤ) → a ≡ c → b ≡ d → a ≡ b +ℤ (c +ℤ negℤ d)
   rest a b c d e g = eq-in (omega (arith, add-rel b (c +ℤ negℤ d), add-rel c (negℤ d), neg-rel d, ap up e, ap down e, ap up g, ap down g))
 
-  turned : (a b c : ℤ) → a +ℤ b +ℤ c ≡ a +ℤ c +ℤ b
-  turned a b c = eq-in (omega (arith, add-rel (a +ℤ b) c, add-rel a b, add-rel (a +ℤ c) b, add-rel a c))
-
   -- from its beginning on a round more adds as much
   counters-later : (k t j : ℕ) → countersAt (X (suc k)) θ (r .start + t + r .round) j ≡ countersAt (X k) θ (r .start + t) j +ℤ perRound j
   unfolding countersAt perRound
@@ -91,7 +88,7 @@ module _ (x : Items) (f : Facts x) (s l n back : ℕ) (held : s < length (x .pla
       let g : r .start + suc t + r .round ≡ suc (r .start + t + r .round) = omega arith in
       ap (λ i. countersAt (X (suc k)) θ i j) g
       ∙ ap₂ _+ℤ_ (counters-later k t j) (same-update (suc k) k (wayTaken (P (suc k)) (r .start + t + r .round)) (wayTaken (P k) (r .start + t)) j (r .later-way k (r .start + t) (omega arith)))
-      ∙ turned (countersAt (X k) θ (r .start + t) j) (perRound j) (update (moveBy (X k) (wayTaken (P k) (r .start + t))) j)
+      ∙ swap-last (countersAt (X k) θ (r .start + t) j) (perRound j) (update (moveBy (X k) (wayTaken (P k) (r .start + t))) j)
       ∙ ap (λ z. z +ℤ perRound j) (sym (ap (λ i. countersAt (X k) θ i j) e))
 
   -- after the loop is left

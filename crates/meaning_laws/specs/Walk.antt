@@ -1,7 +1,7 @@
 -- Where a run goes: through the rounds of a stretch, out of it, and to the first place of each loop. Assumes nothing.
 use mathlib.Core.Path.{_≡_, refl, _∙_, ap}
 use mathlib.Core.List.{List}
-use mathlib.Core.Bool.{true, false}
+use mathlib.Core.Bool.{true, false, false≢true}
 use Prim.Native.Nat.{ℕ, zero, suc, _+_, _*_, _-_, _≤_, _<_}
 use native.Mathlib.Numerals.{add-one}
 use native.Mathlib.Omega.{arith}
@@ -13,7 +13,8 @@ use Rattle.laws.specs.Tests.{cond-by}
 use Rattle.items.specs.declared.LoopMark.{LoopMark}
 use Rattle.items.specs.declared.LoopMark.the-variants as mark
 use Rattle.items.specs.declared.Place.{Place}
-use Rattle.rules.specs.Rules.{markAt, isEndless}
+use Rattle.items.specs.Lists.{Items}
+use Rattle.rules.specs.Rules.{markAt, lengthOf, isEndless, Closed}
 use Rattle.meaning.specs.Run.{Moment, Spot, Step, stretch, goesAgain, next, spot}
 use Rattle.meaning_laws.specs.Facts.{Laid}
 
@@ -91,6 +92,19 @@ module _ (ps : List Place) (q : ℕ) where
         spot ps (m + suc k * stretch (markAt ps q)) ≡ spotAt (q + stretch (markAt ps q)) 0 0
     out-stretch k a f = after ps (omega arith) (in-stretch k (L - 1) a (omega arith)) (next-out ps q (L - 1) k (omega arith) f)
 
+-- ---- an endless loop
+
+-- it has a length, and is gone through again and again
+pub endless-long : (k : LoopMark) → isEndless k ≡ true → (stretch k ≡ lengthOf k) × (k ≡ mark.None → ⊥)
+endless-long mark.None e = absurd (false≢true e)
+endless-long (mark.Counted l n b) e = absurd (false≢true e)
+endless-long (mark.Endless l b) e = (refl, λ q. let z : _≡_ {A = ℕ} 0 1 = cc in omega arith)
+
+pub endless-goes : (k : LoopMark) → isEndless k ≡ true → (r : ℕ) → goesAgain k r ≡ true
+endless-goes mark.None e r = absurd (false≢true e)
+endless-goes (mark.Counted l n b) e r = absurd (false≢true e)
+endless-goes (mark.Endless l b) e r = refl
+
 -- ---- to the first place of a loop
 
 -- the run comes to the first place of a loop
@@ -125,3 +139,9 @@ module _ (ps : List Place) (laid : Laid ps) (s : ℕ) (h : s < length ps) (marke
   pub reach : Reached ps s
   unfolding spot
   reach = come (suc s) 0 0 (omega arith) (omega arith) refl (λ i g. absurd (omega arith))
+
+-- it comes to the endless loop
+pub reach-endless : (x : Items) → Laid (x .places) → (c : Closed x) → Reached (x .places) (c .first)
+reach-endless x laid c =
+    let (e, n) = endless-long (markAt (x .places) (c .first)) (c .endless) in
+    reach (x .places) laid (c .first) (omega (arith, laid .long (c .first), e, c .whole)) n

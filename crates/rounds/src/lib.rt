@@ -6,13 +6,16 @@ ghost use Rattle.laws.specs.Sizes.{size};
 ghost use Rattle.meaning.specs.Run.{stretch};
 ghost use Rattle.meaning.specs.Truth.{bit};
 ghost use Rattle.verdict.specs.declared.Rounds.the-variants as rounds;
-ghost use Rattle.verdict.specs.Rounds.{roundsOf, later, flag, agree, through};
+ghost use Rattle.verdict.specs.Rounds.{roundsOf, later, flag, agree, trend, side, course, overall, through};
 ghost use Rattle.verdict.specs.Forward.{repeats};
 ghost use Rattle.verdict.specs.Verdict.{isAlways, isNever};
 ghost use Rattle.rounds.specs.Last.{lastOf};
 use items::LoopMark;
+use verdict::Course;
 use verdict::Rounds;
+use verdict::Side;
 use verdict::Throughout;
+use verdict::Trend;
 
 // The number of places of a stretch.
 pub fn stretch(m: LoopMark) -> usize
@@ -157,23 +160,64 @@ pub fn bit(n: u32, i: u8) -> bool
     false
 }
 
-// A sum that is a at first and grows by d with each round, against a bound: without end, by where it goes.
+// How a sum goes to which each round adds d.
+fn trend(d: i64) -> Trend
+    ensures { λ r. ⌜ r ≡ trend d ⌝ }
+{
+    if 0 < d {
+        Trend::Rises
+    } else {
+        if d < 0 { Trend::Falls } else { Trend::Stays }
+    }
+}
+
+// Where a sum that is a the first time is to its bound b.
+fn side(a: i64, b: i64) -> Side
+    ensures { λ r. ⌜ r ≡ side a b ⌝ }
+{
+    if b <= a { Side::AtOrAbove } else { Side::Below }
+}
+
+// The table: how the truth of a guard goes.
+fn course(t: Trend, s: Side) -> Course
+    ensures { λ r. ⌜ r ≡ course t s ⌝ }
+{
+    match t {
+        Trend::Rises => match s {
+            Side::AtOrAbove => Course::AlwaysTrue,
+            Side::Below => Course::FalseThenTrue,
+        },
+        Trend::Stays => match s {
+            Side::AtOrAbove => Course::AlwaysTrue,
+            Side::Below => Course::AlwaysFalse,
+        },
+        Trend::Falls => match s {
+            Side::AtOrAbove => Course::TrueThenFalse,
+            Side::Below => Course::AlwaysFalse,
+        },
+    }
+}
+
+// Over all rounds.
+fn overall(c: Course) -> Throughout
+    ensures { λ r. ⌜ r ≡ overall c ⌝ }
+{
+    match c {
+        Course::AlwaysTrue => Throughout::Always,
+        Course::AlwaysFalse => Throughout::Never,
+        Course::TrueThenFalse => Throughout::Changes,
+        Course::FalseThenTrue => Throughout::Changes,
+    }
+}
+
+// A sum that is a at first and grows by d with each round, against a bound: without end, by the table.
 fn ever(a: i64, d: i64, b: i64) -> Throughout
     ensures { λ r. ⌜ r ≡ through a d b rounds.Ever ⌝ }
 {
-    if b <= a {
-        if 0 <= d {
-            Throughout::Always
-        } else {
-            Throughout::Changes
-        }
-    } else {
-        if d <= 0 {
-            Throughout::Never
-        } else {
-            Throughout::Changes
-        }
-    }
+    let t = trend(d);
+    let s = side(a, b);
+    let c = course(t, s);
+    overall(c)
 }
 
 // The same over any rounds, up to a last one by its ends.

@@ -4,7 +4,7 @@ use mathlib.Core.Bool.{Bool, true, false, cond}
 use Prim.Native.Nat.{ℕ, zero, suc, _+_, _-_, _≤_}
 use lib.Dec.{ltb, leb, eqb}
 use lib.IntN.{ℤ, pos, _+ℤ_, _*ℤ_}
-use lib.Signed.{leZ}
+use lib.Signed.{leZ, ltZ}
 use Rattle.items.specs.declared.LoopMark.{LoopMark}
 use Rattle.items.specs.declared.LoopMark.the-variants as mark
 use Rattle.items.specs.declared.Place.{Place}
@@ -12,6 +12,12 @@ use Rattle.rules.specs.Rules.{markAt}
 use Rattle.meaning.specs.Run.{Way, stretch}
 use Rattle.verdict.specs.declared.Throughout.{Throughout}
 use Rattle.verdict.specs.declared.Throughout.the-variants.{Always, Never, Changes}
+use Rattle.verdict.specs.declared.Trend.{Trend}
+use Rattle.verdict.specs.declared.Trend.the-variants.{Rises, Stays, Falls}
+use Rattle.verdict.specs.declared.Side.{Side}
+use Rattle.verdict.specs.declared.Side.the-variants.{AtOrAbove, Below}
+use Rattle.verdict.specs.declared.Course.{Course}
+use Rattle.verdict.specs.declared.Course.the-variants.{AlwaysTrue, AlwaysFalse, TrueThenFalse, FalseThenTrue}
 use Rattle.verdict.specs.declared.Rounds.{Rounds}
 use Rattle.verdict.specs.declared.Rounds.the-variants as rounds
 
@@ -72,8 +78,36 @@ agree true false = Changes
 agree false true = Changes
 agree false false = Never
 
--- a sum that is a in the first of the rounds and grows by d with each, against a bound: by its ends, and without end by where it goes
+-- ---- without end, by six cases
+
+-- how a sum goes to which each round adds d
+abbrev pub trend : ℤ → Trend
+trend d = cond (ltZ (pos 0) d) Rises (cond (ltZ d (pos 0)) Falls Stays)
+
+-- where a sum that is a the first time is to its bound b
+abbrev pub side : ℤ → ℤ → Side
+side a b = cond (leZ b a) AtOrAbove Below
+
+-- the table: how the truth of a guard goes, by how its sum goes and where it is the first time
+abbrev pub course : Trend → Side → Course
+course Rises AtOrAbove = AlwaysTrue
+course Rises Below = FalseThenTrue
+course Stays AtOrAbove = AlwaysTrue
+course Stays Below = AlwaysFalse
+course Falls AtOrAbove = TrueThenFalse
+course Falls Below = AlwaysFalse
+
+-- over all rounds
+abbrev pub overall : Course → Throughout
+overall AlwaysTrue = Always
+overall AlwaysFalse = Never
+overall TrueThenFalse = Changes
+overall FalseThenTrue = Changes
+
+-- ---- a guard
+
+-- a sum that is a in the first of the rounds and grows by d with each, against a bound: by its ends, and without end by the table
 unfoldable pub through : ℤ → ℤ → ℤ → Rounds → Throughout
 through a d b rounds.None = Always
 through a d b (rounds.UpTo k) = agree (leZ b a) (leZ b (a +ℤ pos k *ℤ d))
-through a d b rounds.Ever = cond (leZ b a) (cond (leZ (pos 0) d) Always Changes) (cond (leZ d (pos 0)) Never Changes)
+through a d b rounds.Ever = overall (course (trend d) (side a b))

@@ -13,3 +13,24 @@ pub enum Rounds {
     UpTo(u32),
     Ever,
 }
+
+// How a sum goes with each round.
+pub enum Trend {
+    Rises,
+    Stays,
+    Falls,
+}
+
+// On which side of its bound a sum is the first time that it is tested.
+pub enum Side {
+    AtOrAbove,
+    Below,
+}
+
+// How the truth of a guard goes over rounds without end: the same every time, or first one and then the other.
+pub enum Course {
+    AlwaysTrue,
+    AlwaysFalse,
+    TrueThenFalse,
+    FalseThenTrue,
+}

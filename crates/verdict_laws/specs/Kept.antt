@@ -6,9 +6,11 @@ use Prim.Native.Nat.{ℕ, zero, suc, _+_, _-_, _≤_, _<_}
 use native.Mathlib.Numerals.{add-one}
 use native.Mathlib.Nat.{add-zero, add-suc, sub-self, add-sub-of-le}
 use native.Mathlib.Omega.{arith}
-use lib.IntN.{ℤ, pos, _+ℤ_, _*ℤ_, +ℤ-assoc, +ℤ-comm, +ℤ-idr}
+use lib.IntN.{ℤ, pos, _+ℤ_, _*ℤ_, +ℤ-assoc, +ℤ-idr}
 use lib.ListN.{length}
 use borrow.Author.Tests.{ltb-false, lt-leb, le-leb}
+use Rattle.laws.specs.Arithmetic.{swap-last}
+use Rattle.laws.specs.Progression.{line-zero, line-suc}
 use Rattle.laws.specs.Members.{Has}
 use Rattle.counters.specs.Sum.{Valuation, sum}
 use Rattle.items.specs.declared.LoopMark.{LoopMark}
@@ -22,27 +24,16 @@ use Rattle.meaning.specs.Drift.{inBy, backBy, onceAround, drift}
 use Rattle.meaning.specs.Judged.{waysOf, Test, Passes, Fails}
 use Rattle.meaning_laws.specs.Facts.{Laid, Facts}
 use Rattle.meaning_laws.specs.Stays.{next-by}
-use Rattle.meaning_laws.specs.Between.{sum-same, sum-plus}
+use Rattle.meaning_laws.specs.Between.{sum-line}
 use Rattle.verdict.specs.declared.Throughout.the-variants.{Always}
 use Rattle.verdict.specs.Rounds.{firstOf, loopOf, roundsOf, roundsBy, In}
 use Rattle.verdict.specs.Forward.{repeats, base}
 use Rattle.verdict.specs.Verdict.{firstSum, roundSum, guardThrough, testThrough}
 use Rattle.verdict_laws.specs.Tells.{TellsHow}
 use Rattle.verdict_laws.specs.Steps.{shift, in-zero, first-by, first-le, first-in, first-is, round-in, visit, taken-in, take-in}
-use Rattle.verdict_laws.specs.Lines.{line-zero, line-suc, through-always, through-never, through-unmet, through-met}
+use Rattle.verdict_laws.specs.Lines.{through-always, through-never, through-unmet, through-met}
 
 -- ---- sums
-
-swap-last : (a b c : ℤ) → (a +ℤ b) +ℤ c ≡ (a +ℤ c) +ℤ b
-swap-last a b c = simp (+ℤ-assoc, +ℤ-comm)
-
--- the sum of a guard after r rounds
-sum-line : (l : List ℤ) (θ δ η : Valuation) (r : ℕ) → ((j : ℕ) → η j ≡ θ j +ℤ pos r *ℤ δ j) → sum l η ≡ sum l θ +ℤ pos r *ℤ sum l δ
-sum-line l θ δ η zero h = sum-same l θ η (λ j. h j ∙ line-zero (θ j) (δ j)) ∙ sym (line-zero (sum l θ) (sum l δ))
-sum-line l θ δ η (suc r) h =
-    sum-plus l (λ j. θ j +ℤ pos r *ℤ δ j) η δ (λ j. h j ∙ line-suc (θ j) (δ j) r)
-    ∙ ap (λ z. z +ℤ sum l δ) (sum-line l θ δ (λ j. θ j +ℤ pos r *ℤ δ j) r (λ j. refl))
-    ∙ sym (line-suc (sum l θ) (sum l δ) r)
 
 -- from the round that a way is taken in first
 from-shift : (a d : ℤ) (r : ℕ) (t : Bool) → a +ℤ pos (r + cond t 1 0) *ℤ d ≡ (a +ℤ cond t d (pos 0)) +ℤ pos r *ℤ d

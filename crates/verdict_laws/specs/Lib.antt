@@ -1,8 +1,8 @@
 pub mod Tells
 pub mod Steps
+pub mod Courses
 pub mod Lines
 pub mod Kept
-pub mod OneRound
 pub mod Power
 pub mod Until
 pub mod Search
