@@ -1,17 +1,22 @@
 -- A guard that is tested at one place of the endless loop, round after round, by six cases: its sum rises, stays or falls with each round, and is at or
--- above its bound the first time that it is tested, or below it. Said of the run alone. Assumes nothing.
+-- above its bound the first time that it is tested, or below it. Said of the run, from any start; nothing here is what a checker computes. Assumes nothing.
+--
+-- Document 003 tests a guard at the first and at the last visit of a place, for a back move at the second and at the last: a round adds the same each time,
+-- so that the two decide. The endless loop has no last round, and a limit stands for it: infinite where the second visit has more than the first, minus
+-- infinite where it has less, else the same; infinite meets every bound, minus infinite none. 003 takes the limit of each counter, and so leaves open what a
+-- guard is where they go off against each other; here it is that of the guard's sum. Its two tests stand beside each case in brackets.
 use mathlib.Core.Path.{_≡_, sym, _∙_, ap, subst}
 use mathlib.Core.Logic.{_↔_}
 use mathlib.Core.List.{List}
 use mathlib.Core.Bool.{true, false}
 use Prim.Native.Nat.{ℕ, zero, suc, _+_, _*_, _-_, _≤_, _<_}
 use native.Mathlib.Omega.{arith}
-use lib.IntN.{ℤ, pos}
+use lib.IntN.{ℤ, pos, _+ℤ_, _*ℤ_}
 use lib.Signed.{_≤ℤ_, _<ℤ_, ≤ℤ-refl}
 use lib.ListN.{length, getD}
 use Rattle.laws.specs.Arithmetic.{le-in, lt-out}
 use Rattle.laws.specs.Sizes.{size}
-use Rattle.laws.specs.Progression.{Reaches, gap, steps, all-reach, none-reach, reach-from, reach-until}
+use Rattle.laws.specs.Progression.{line-suc, Reaches, gap, steps, all-reach, none-reach, reach-from, reach-until}
 use Rattle.kinds.specs.declared.Kind.the-variants as kind
 use Rattle.counters.specs.Sum.{Valuation, sum}
 use Rattle.items.specs.declared.Form.the-variants as form
@@ -102,7 +107,15 @@ module _ (x : Items) (laid : Laid (x .places)) (θ : Valuation) (g : Guard) {n :
   abbrev pub roundAdds : ℤ
   roundAdds = sum (g .coefficients .at) (λ j. drift x j (spot (x .places) (t .first) .first))
 
-  -- it is true at moment m
+  -- the round in which it has risen to the bound: what it is below, divided by what a round adds, rounded up
+  abbrev pub risenBy : ℕ
+  risenBy = n + steps (gap sumAtFirst (g .bound)) (size roundAdds)
+
+  -- the round in which it has fallen below the bound: one more than it is above, divided by what a round takes, rounded up
+  abbrev pub fallenBy : ℕ
+  fallenBy = n + steps (gap (g .bound) sumAtFirst + 1) (size roundAdds)
+
+  -- the guard is true at moment m
   abbrev pub Met : Moment → Type 0
   Met m = Meets g (countersAt x θ m)
 
@@ -110,12 +123,22 @@ module _ (x : Items) (laid : Laid (x .places)) (θ : Valuation) (g : Guard) {n :
   abbrev pub time : ℕ → Moment
   time k = t .first + k * stretch (markAt (x .places) (spot (x .places) (t .first) .first))
 
-  -- it is true then where the sum has reached the bound
+  -- its sum then
+  abbrev pub sumThen : ℕ → ℤ
+  sumThen k = sum (g .coefficients .at) (countersAt x θ (time k))
+
+  sum-then : (k : ℕ) → sumThen k ≡ sumAtFirst +ℤ pos k *ℤ roundAdds
+  sum-then k =
+      sum-line (g .coefficients .at) (countersAt x θ (t .first)) (λ j. drift x j (spot (x .places) (t .first) .first)) (countersAt x θ (time k)) k
+      (counters-later x laid (t .first) (t .endless) θ k)
+
+  -- each round adds the same to it
+  pub adds-each : (k : ℕ) → sumThen (suc k) ≡ sumThen k +ℤ roundAdds
+  adds-each k = sum-then (suc k) ∙ line-suc sumAtFirst roundAdds k ∙ ap (λ z. z +ℤ roundAdds) (sym (sum-then k))
+
+  -- the guard is true then where its sum has reached the bound
   pub met-then : (k : ℕ) → Met (time k) ≡ Reaches sumAtFirst roundAdds (g .bound) k
-  met-then k =
-      ap (λ z. g .bound ≤ℤ z)
-      (sum-line (g .coefficients .at) (countersAt x θ (t .first)) (λ j. drift x j (spot (x .places) (t .first) .first)) (countersAt x θ (time k)) k
-      (counters-later x laid (t .first) (t .endless) θ k))
+  met-then k = ap (λ z. g .bound ≤ℤ z) (sum-then k)
 
   -- what is so each time is so at each of the moments
   each-time : (Q : Moment → Type 0) → ((k : ℕ) → Q (time k)) → (m : Moment) → At m → Q m
@@ -125,35 +148,31 @@ module _ (x : Items) (laid : Laid (x .places)) (θ : Valuation) (g : Guard) {n :
   round-then : (k : ℕ) → spot (x .places) (time k) .round ≡ n + k
   round-then k = ap (λ (s : Spot). s .round) (rounds-later x laid (t .first) (t .endless) k) ∙ ap (λ r. r + k) (t .round)
 
-  -- rises, and is at or above the bound the first time: true every time
+  -- rises, and is at or above the bound the first time: true every time (003: met, met)
   pub rises-above : pos 0 <ℤ roundAdds → g .bound ≤ℤ sumAtFirst → (m : Moment) → At m → Met m
   rises-above u h = each-time Met (λ k. rw (met-then k) (all-reach sumAtFirst roundAdds (g .bound) (le-in (omega (arith, lt-out u))) h k))
 
-  -- rises, and is below it the first time: false before the round in which it has risen by what it is below, and true from that round on
-  pub rises-below : pos 0 <ℤ roundAdds → sumAtFirst <ℤ g .bound → (m : Moment) → At m →
-      Met m ↔ (n + steps (gap sumAtFirst (g .bound)) (size roundAdds) ≤ spot (x .places) m .round)
+  -- rises, and is below the first time: false before round risenBy, and true from it on (003: not met, met)
+  pub rises-below : pos 0 <ℤ roundAdds → sumAtFirst <ℤ g .bound → (m : Moment) → At m → Met m ↔ (risenBy ≤ spot (x .places) m .round)
   rises-below u h =
       let e = reach-from sumAtFirst roundAdds (g .bound) u in
-      each-time (λ m. Met m ↔ (n + steps (gap sumAtFirst (g .bound)) (size roundAdds) ≤ spot (x .places) m .round))
-      (λ k. rw (met-then k, round-then k) (λ w. omega (arith, e k .0 w), λ l. e k .1 (omega arith)))
+      each-time (λ m. Met m ↔ (risenBy ≤ spot (x .places) m .round)) (λ k. rw (met-then k, round-then k) (λ w. omega (arith, e k .0 w), λ l. e k .1 (omega arith)))
 
-  -- stays, and is at or above it: true every time
+  -- stays, and is at or above the first time: true every time (003: met, the same again)
   pub stays-above : roundAdds ≡ pos 0 → g .bound ≤ℤ sumAtFirst → (m : Moment) → At m → Met m
   stays-above e h = each-time Met (λ k. rw (met-then k) (all-reach sumAtFirst roundAdds (g .bound) (rw e (≤ℤ-refl (pos 0))) h k))
 
-  -- stays, and is below it: false every time
+  -- stays, and is below the first time: false every time (003: not met, the same again)
   pub stays-below : roundAdds ≡ pos 0 → sumAtFirst <ℤ g .bound → (m : Moment) → At m → Met m → ⊥
   stays-below e h = each-time (λ m. Met m → ⊥) (λ k w. none-reach sumAtFirst roundAdds (g .bound) (rw e (≤ℤ-refl (pos 0))) h k (rw (met-then k) at w))
 
-  -- falls, and is at or above it the first time: true before the round in which it has fallen by one more than it is above, and false from that round on
-  pub falls-above : roundAdds <ℤ pos 0 → g .bound ≤ℤ sumAtFirst → (m : Moment) → At m →
-      Met m ↔ (spot (x .places) m .round < n + steps (gap (g .bound) sumAtFirst + 1) (size roundAdds))
+  -- falls, and is at or above the first time: true before round fallenBy, and false from it on (003: met, not met)
+  pub falls-above : roundAdds <ℤ pos 0 → g .bound ≤ℤ sumAtFirst → (m : Moment) → At m → Met m ↔ (spot (x .places) m .round < fallenBy)
   falls-above u h =
       let e = reach-until sumAtFirst roundAdds (g .bound) u h in
-      each-time (λ m. Met m ↔ (spot (x .places) m .round < n + steps (gap (g .bound) sumAtFirst + 1) (size roundAdds)))
-      (λ k. rw (met-then k, round-then k) (λ w. omega (arith, e k .0 w), λ l. e k .1 (omega arith)))
+      each-time (λ m. Met m ↔ (spot (x .places) m .round < fallenBy)) (λ k. rw (met-then k, round-then k) (λ w. omega (arith, e k .0 w), λ l. e k .1 (omega arith)))
 
-  -- falls, and is below it: false every time
+  -- falls, and is below the first time: false every time (003: not met, not met)
   pub falls-below : roundAdds <ℤ pos 0 → sumAtFirst <ℤ g .bound → (m : Moment) → At m → Met m → ⊥
   falls-below u h =
       each-time (λ m. Met m → ⊥) (λ k w. none-reach sumAtFirst roundAdds (g .bound) (le-in (omega (arith, lt-out u))) h k (rw (met-then k) at w))

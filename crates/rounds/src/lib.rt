@@ -178,27 +178,27 @@ fn side(a: i64, b: i64) -> Side
     if b <= a { Side::AtOrAbove } else { Side::Below }
 }
 
-// The table: how the truth of a guard goes.
+// The table: how the truth of a guard goes, by how its sum goes and where it is the first time.
 fn course(t: Trend, s: Side) -> Course
     ensures { λ r. ⌜ r ≡ course t s ⌝ }
 {
     match t {
         Trend::Rises => match s {
-            Side::AtOrAbove => Course::AlwaysTrue,
-            Side::Below => Course::FalseThenTrue,
+            Side::AtOrAbove => Course::AlwaysTrue, // rises from the bound or above
+            Side::Below => Course::FalseThenTrue, // rises from below
         },
         Trend::Stays => match s {
-            Side::AtOrAbove => Course::AlwaysTrue,
-            Side::Below => Course::AlwaysFalse,
+            Side::AtOrAbove => Course::AlwaysTrue, // stays at the bound or above
+            Side::Below => Course::AlwaysFalse, // stays below
         },
         Trend::Falls => match s {
-            Side::AtOrAbove => Course::TrueThenFalse,
-            Side::Below => Course::AlwaysFalse,
+            Side::AtOrAbove => Course::TrueThenFalse, // falls from the bound or above
+            Side::Below => Course::AlwaysFalse, // falls from below
         },
     }
 }
 
-// Over all rounds.
+// Over all rounds: it changes where it is first one and then the other.
 fn overall(c: Course) -> Throughout
     ensures { λ r. ⌜ r ≡ overall c ⌝ }
 {
@@ -210,14 +210,11 @@ fn overall(c: Course) -> Throughout
     }
 }
 
-// A sum that is a at first and grows by d with each round, against a bound: without end, by the table.
+// A sum that is a the first time and to which each round adds d, against its bound b: without end, by the table.
 fn ever(a: i64, d: i64, b: i64) -> Throughout
     ensures { λ r. ⌜ r ≡ through a d b rounds.Ever ⌝ }
 {
-    let t = trend(d);
-    let s = side(a, b);
-    let c = course(t, s);
-    overall(c)
+    overall(course(trend(d), side(a, b)))
 }
 
 // The same over any rounds, up to a last one by its ends.

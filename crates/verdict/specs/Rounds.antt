@@ -97,7 +97,7 @@ course Stays Below = AlwaysFalse
 course Falls AtOrAbove = TrueThenFalse
 course Falls Below = AlwaysFalse
 
--- over all rounds
+-- over all rounds: it changes where it is first one and then the other
 abbrev pub overall : Course → Throughout
 overall AlwaysTrue = Always
 overall AlwaysFalse = Never
