@@ -1,15 +1,15 @@
 -- Sums and products of integers, for `omega`: z is up z − down z, and each operation is an equation of naturals. `omega (sums, add-rel a b, ..)`
 -- reads _≤ℤ_ in the hypotheses that are listed by `le-out`, and proves it under `le-in`. Assumes nothing.
-use mathlib.Core.Path.{_≡_, refl, sym, _∙_, ap, ap₂, subst}
-use mathlib.Core.Logic.{_⊎_, inl, inr, ⊎-elim}
+use mathlib.Core.Path.{_≡_, refl, sym, _∙_, ap, ap₂}
+use mathlib.Core.Logic.{_⊎_, inl, inr}
 use mathlib.Core.Bool.{Bool, true, false, cond}
 use Prim.Native.Nat.{ℕ, zero, suc, _+_, _≤_, _<_}
 use native.Mathlib.Omega.{arith}
-use lib.Dec.{T, leb, ltb, leb→le, le→leb, ltb→lt, lt→ltb, nltb→le, nleb→lt}
+use lib.Dec.{leb, ltb, leb→le, le→leb, ltb→lt, lt→ltb, nltb→le, nleb→lt}
 use lib.IntN.{ℤ, pos, negsuc, _+ℤ_, _*ℤ_, negℤ, subℕ, +ℤ-assoc, +ℤ-comm, +ℤ-idl, sucℤ-*ℤ, predℤ-*ℤ, zero-*ℤ, negℤ-+ℤ}
 use lib.Signed.{leZ, _≤ℤ_, _<ℤ_}
-use Rattle.laws.specs.Tests.{Tells, tells-not}
-use Rattle.laws.specs.Order.{up, down, test-lt}
+use Rattle.laws.specs.Tests.{Tells}
+use Rattle.laws.specs.Order.{up, down, test-lt, le-true, le-false, true-le}
 
 -- ---- order and equality
 
@@ -50,14 +50,10 @@ le-or a b = go (leb (up a + down b) (up b + down a)) refl
 
 -- its tests tell
 pub tells-leZ : (a b : ℤ) → Tells (leZ a b) (a ≤ℤ b)
-tells-leZ a b = (λ e. record { le = subst T (sym e) tt }, λ h. is (leZ a b) (h .le))
-  where
-    is : (t : Bool) → T t → t ≡ true
-    is true h = refl
-    is false h = absurd h
+tells-leZ a b = (λ e. le-in (le-true a b e), λ h. true-le a b (le-out h))
 
 pub not-leZ : (a b : ℤ) → leZ b a ≡ false → a <ℤ b
-not-leZ a b e = ⊎-elim (λ h. absurd (tells-not (leZ b a) (tells-leZ b a) e h)) (λ l. lt-in l) (le-or b a)
+not-leZ a b e = lt-in (le-false b a e)
 
 -- ---- sums
 

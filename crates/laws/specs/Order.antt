@@ -4,7 +4,7 @@ use mathlib.Core.Path.{_≡_, refl, sym, subst}
 use mathlib.Core.Bool.{Bool, true, false, not}
 use Prim.Native.Nat.{ℕ, suc, _+_, _≤_, _<_}
 use native.Mathlib.Omega.{arith}
-use lib.Dec.{T, leb→le, ltb→lt, nltb→le}
+use lib.Dec.{T, leb→le, ltb→lt, nleb→lt, nltb→le}
 use lib.IntN.{ℤ, pos, negsuc}
 use lib.Signed.{leZ, ltZ}
 
@@ -34,6 +34,16 @@ test-not-lt (pos a) (negsuc b) t = omega arith
 test-not-lt (negsuc a) (pos b) t = absurd t
 test-not-lt (negsuc a) (negsuc b) t = omega (arith, nltb→le b a t)
 
+test-not-le : (a b : ℤ) → T (not (leZ a b)) → up b + down a < up a + down b
+test-not-le (pos a) (pos b) t = omega (arith, nleb→lt a b t)
+test-not-le (pos a) (negsuc b) t = omega arith
+test-not-le (negsuc a) (pos b) t = absurd t
+test-not-le (negsuc a) (negsuc b) t = omega (arith, nleb→lt b a t)
+
+told : (t : Bool) → (T (not t) → ⊥) → t ≡ true
+told true h = refl
+told false h = absurd (h tt)
+
 refuted : (t : Bool) → (T t → ⊥) → t ≡ false
 refuted true h = absurd (h tt)
 refuted false h = refl
@@ -42,10 +52,25 @@ refuted false h = refl
 pub le-true : (a b : ℤ) → leZ a b ≡ true → up a + down b ≤ up b + down a
 le-true a b e = test-le a b (subst T (sym e) tt)
 
+pub le-false : (a b : ℤ) → leZ a b ≡ false → up b + down a < up a + down b
+le-false a b e = test-not-le a b (subst (λ t. T (not t)) (sym e) tt)
+
+pub lt-true : (a b : ℤ) → ltZ a b ≡ true → up a + down b < up b + down a
+lt-true a b e = test-lt a b (subst T (sym e) tt)
+
 pub lt-false : (a b : ℤ) → ltZ a b ≡ false → up b + down a ≤ up a + down b
 lt-false a b e = test-not-lt a b (subst (λ t. T (not t)) (sym e) tt)
+
+pub true-le : (a b : ℤ) → up a + down b ≤ up b + down a → leZ a b ≡ true
+true-le a b h = told (leZ a b) (λ t. let k : up b + down a < up a + down b = test-not-le a b t in omega arith)
+
+pub false-le : (a b : ℤ) → up b + down a < up a + down b → leZ a b ≡ false
+false-le a b h = refuted (leZ a b) (λ t. let k : up a + down b ≤ up b + down a = test-le a b t in omega arith)
+
+pub true-lt : (a b : ℤ) → up a + down b < up b + down a → ltZ a b ≡ true
+true-lt a b h = told (ltZ a b) (λ t. let k : up b + down a ≤ up a + down b = test-not-lt a b t in omega arith)
 
 pub false-lt : (a b : ℤ) → up b + down a ≤ up a + down b → ltZ a b ≡ false
 false-lt a b h = refuted (ltZ a b) (λ t. let k : up a + down b < up b + down a = test-lt a b t in omega arith)
 
-pub ruleset zarith = (arith, le-true, lt-false, false-lt)
+pub ruleset zarith = (arith, le-true, le-false, lt-true, lt-false, true-le, false-le, true-lt, false-lt)
