@@ -1,16 +1,19 @@
 #!/usr/bin/env python3
 """examples.py PROGRAM: the examples, each spelled by tools/case, give the lines that their first comments say; and tools/case itself.
 
-PROGRAM reads a case file from standard input and prints its line. tools/case is tested on the records of the stored cases, there and back,
-against the spelling of tests/cases.py, and on notation and bytes that it must refuse.
+PROGRAM reads a case file from standard input and prints its line. docs/standby-guards.md has six of the examples, word for word. tools/case is
+tested on the records of the stored cases, there and back, against the spelling of tests/cases.py, and on notation and bytes that it must refuse.
 """
 import os
 import subprocess
 import sys
 
 from cases import LENGTH, ROOT, TWELVE, pack, stored
+from pages import blocks, table
 from tally import Tally
 
+EXAMPLES = ROOT / "examples"
+PAGE = ROOT / "docs" / "standby-guards.md"
 TOOL = ROOT / "tools" / "case"
 KINDS = "is none of S, W, G, T, F, P"
 RECORD = TWELVE[4 * LENGTH:5 * LENGTH]  # its field 3 is 1250
@@ -90,15 +93,33 @@ def refused(why):
 
 def examples(tally, program):
     """The examples give their lines, and come back from `show` as they were spelled."""
-    files = {file.name: case("spell", file.read_bytes()) for file in sorted((ROOT / "examples").glob("*.case"))}
+    files = {file.name: case("spell", file.read_bytes()) for file in sorted(EXAMPLES.glob("*.case"))}
     for name, (spelled, complaint, _) in files.items():
-        first = (ROOT / "examples" / name).read_text().split("\n")[0]
+        first = (EXAMPLES / name).read_text().split("\n")[0]
         tally.equal(f"{name}: complaint", "", complaint)
         line = subprocess.run([program], input=spelled, stdout=subprocess.PIPE).stdout.decode()
         tally.equal(name, first + "\n", "# gives: " + line)
         tally.equal(f"{name}: there and back", taken(spelled), case("spell", case("show", spelled)[0]))
     tally.equal("twelve-rounds.case spells the program's stdin", taken(TWELVE), files["twelve-rounds.case"])
     return len(files)
+
+
+def shown(name):
+    """An example as the page has it: what stands below its head of comments, and its line."""
+    head, records = (EXAMPLES / name).read_text().split("\n\n", 1)
+    return records.splitlines() + [head.split("\n")[0].replace("# gives: ", "gives ")]
+
+
+def page(tally):
+    """Each of the six cases in the page's table names its example; the blocks are these, in that order, and there are no others."""
+    text = PAGE.read_text(encoding="ascii")
+    names = [f"standby-{way}-{side}.case" for way in ("rises", "stays", "falls") for side in ("above", "below")]
+    cells = [(way, cell.split(": ")[-1]) for way, *cells in table(text, "| with each round the sum |") for cell in cells]
+    tally.equal(f"{PAGE.name}: the table's examples", [(name.split("-")[1], f"`{name}`") for name in names], cells)
+    found = blocks(text, "case")
+    tally.equal(f"{PAGE.name}: blocks, and all fences", (len(names), 2 * len(names)), (len(found), text.count("```")))
+    for name, (first, lines) in zip(names, found):
+        tally.equal(f"{PAGE.name}: {name}, from line {first} on", shown(name), lines)
 
 
 def records_there_and_back(tally):
@@ -119,6 +140,7 @@ def main():
     tally = Tally("examples")
     tally.equal("tools/case can be run", True, os.access(TOOL, os.X_OK))
     files = examples(tally, os.path.abspath(sys.argv[1]))
+    page(tally)
     records = records_there_and_back(tally)
     for text, want in ALSO_NOTATION:
         tally.equal(repr(text), taken(b"".join(map(pack, want))), case("spell", text.encode()))

@@ -15,7 +15,7 @@ import subprocess
 import sys
 
 from cases import LENGTH, ROOT
-from pages import CRATES, blocks, changed, cut, results_defined, spell, unspelled, with_changes
+from pages import CRATES, blocks, changed, cut, results_defined, spell, table, unspelled, with_changes
 from tally import Tally
 
 DOCUMENT = ROOT / "docs" / "FORMAT.md"
@@ -52,13 +52,6 @@ class Count(Tally):
 
 def answer(program, data):
     return subprocess.run([program], input=data, stdout=subprocess.PIPE, check=True).stdout.decode("latin-1")
-
-
-def table(text, head):
-    """The rows of the table whose first line begins so: their cells."""
-    lines = itertools.dropwhile(lambda line: not line.startswith(head), text.split("\n"))
-    rows = itertools.takewhile(lambda line: line.startswith("|"), lines)
-    return [[cell.strip() for cell in row.strip("|").split("|")] for row in itertools.islice(rows, 2, None)]
 
 
 # ---- examples

@@ -1,5 +1,6 @@
-"""What the tests of documents share: fenced blocks, cases in the short notation, changes of a case, the results that are defined."""
+"""What the tests of documents share: fenced blocks, tables, cases in the short notation, changes of a case, the results that are defined."""
 import functools
+import itertools
 import re
 import subprocess
 import sys
@@ -39,6 +40,13 @@ def blocks(text, name):
         elif lines is not None:
             lines.append(line)
     return found
+
+
+def table(text, head):
+    """The rows of the table whose first line begins so: their cells."""
+    lines = itertools.dropwhile(lambda line: not line.startswith(head), text.split("\n"))
+    rows = itertools.takewhile(lambda line: line.startswith("|"), lines)
+    return [[cell.strip() for cell in row.strip("|").split("|")] for row in itertools.islice(rows, 2, None)]
 
 
 def unspelled(text):
