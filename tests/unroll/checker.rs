@@ -31,7 +31,7 @@ impl Case {
     }
 
     /// The guards of a move, with the field that names each.
-    fn guards(&self, number: usize) -> impl Iterator<Item = (usize, usize)> + '_ {
+    pub fn guards(&self, number: usize) -> impl Iterator<Item = (usize, usize)> + '_ {
         [7, 8].into_iter().filter_map(move |field| self.0[T][number][field].map(|guard| (field, guard as usize)))
     }
 
@@ -57,10 +57,6 @@ impl Case {
 /// The sum of coefficient times counter.
 pub fn guard_sum(guard: &Fields, counters: &[i64; 4]) -> i64 {
     guard[1..5].iter().zip(counters).map(|(coefficient, counter)| coefficient.expect("a filled field") * counter).sum()
-}
-
-fn holds(guard: &Fields, counters: &[i64; 4]) -> bool {
-    Some(guard_sum(guard, counters)) >= guard[5]
 }
 
 /// 24, 31 to 35, or 0.
@@ -216,10 +212,27 @@ impl Run {
         (0..4).for_each(|counter| counters[counter] += more[counter] - less[counter]);
     }
 
-    /// The counters as a place of the present loop shows them; the mistake is to show those of the first round everywhere but at its first place.
+    /// The counters as a place of the present loop shows them. The mistakes are to show those of the first round everywhere but at its first place;
+    /// and in the endless loop to take away what has been added since the first round.
     fn shown(&self, at: usize, counters: [i64; 4]) -> [i64; 4] {
-        let first_round = self.moments.get(self.endless + at).filter(|_| self.mistake == DriftAtFirst && at > 0);
-        first_round.map_or(counters, |step| step.counters)
+        match (self.mistake, self.moments.get(self.endless + at)) {
+            (DriftAtFirst, Some(step)) if at > 0 => step.counters,
+            (RisesForFalls, Some(step)) if step.rounds == 0 => std::array::from_fn(|counter| 2 * step.counters[counter] - counters[counter]),
+            _ => counters,
+        }
+    }
+
+    /// Whether a guard is true of the counters; where it is tested in every round of the endless loop, with the mistakes in its cases there.
+    fn holds(&self, case: &Case, guard: &Fields, counters: &[i64; 4], every_round: bool) -> bool {
+        let over = guard_sum(guard, counters) - guard[5].expect("a bound");
+        let adds = || guard_sum(guard, &case.added_by(case.second_round(self.moments[self.endless].place)));
+        match self.mistake {
+            RisesBelowTrue if every_round => over >= 0 || adds() > 0,
+            StaysAboveFalse if every_round => over >= 0 && adds() != 0,
+            StaysBelowTrue if every_round => over >= 0 || adds() == 0,
+            AtBoundBelow if every_round => over > 0,
+            _ => over >= 0,
+        }
     }
 
     /// The moment after this one; after the first round of the endless loop its first place comes again.
@@ -246,7 +259,7 @@ impl Run {
             for (at, step) in round_one.iter().enumerate() {
                 self.enter(case, &mut counters, step.place, 2);
                 let shown = self.shown(at, counters);
-                let (before, now, truth) = (sums[at], guard_sum(guard, &shown), holds(guard, &shown));
+                let (before, now, truth) = (sums[at], guard_sum(guard, &shown), self.holds(case, guard, &shown, true));
                 seen[at][!truth as usize] = true;
                 settled &= now == before || (now > before) == truth;
                 sums[at] = now;
@@ -267,38 +280,49 @@ impl Run {
             };
             let counters = if self.mistake == GuardsBefore { &self.moments[moment - 1].counters } else { &step.counters };
             for (field, guard) in case.guards(number) {
-                if !skipped && !holds(&case.0[G][guard], counters) {
+                if !skipped && !self.holds(case, &case.0[G][guard], counters, moment > self.endless) {
                     failing.push((step.place, way, field, guard));
                 }
             }
         }
         self.planted_back_guards(case, &mut failing);
-        for (at, step) in self.moments[self.endless..].iter().enumerate() {
-            let Some((way, number)) = case.entry(step.place, 2) else { continue };
-            for (field, guard) in case.guards(number) {
-                if self.mistake != GuardsEndlessOnce && self.later(case, &case.0[G][guard])?[at][1] {
-                    failing.push((step.place, way, field, guard));
-                }
-            }
+        if self.mistake != GuardsEndlessOnce {
+            self.add_failing_later(case, &mut failing)?;
         }
         let told = if self.mistake == FirstInTime { failing.first() } else { failing.iter().min() };
         Ok(told.map(|&(place, _, _, guard)| (place, guard)))
     }
 
-    /// The two mistakes that test the guards of a back move where it is not taken.
+    /// The guards that fail in a later round of the endless loop; the mistake is to test those of its way in there.
+    fn add_failing_later(&self, case: &Case, failing: &mut Vec<(usize, usize, usize, usize)>) -> Result<(), TooLong> {
+        for (at, step) in self.moments[self.endless..].iter().enumerate() {
+            let again = case.entry(step.place, 1).filter(|_| self.mistake == WayInEveryRound);
+            for (way, number) in case.entry(step.place, 2).into_iter().chain(again) {
+                for (field, guard) in case.guards(number) {
+                    if self.later(case, &case.0[G][guard])?[at][1] {
+                        failing.push((step.place, way, field, guard));
+                    }
+                }
+            }
+        }
+        Ok(())
+    }
+
+    /// The mistakes that test the guards of a back move where it is not taken.
     fn planted_back_guards(&self, case: &Case, failing: &mut Vec<(usize, usize, usize, usize)>) {
         for (moment, step) in self.moments.iter().enumerate() {
             let Some(back) = case.0[P][step.place][6] else { continue };
             let mut counters = step.counters;
             match self.mistake {
                 BackFromRoundOne if step.round == 1 && step.rounds != 1 => {}
+                BackFromRoundOneEndless if step.rounds == 0 => {}
                 BackWithOneRound if step.rounds == 1 => {
                     counters = self.moments[moment + step.length - 1].counters;
                     case.add_updates(&mut counters, back as usize);
                 }
                 _ => continue,
             }
-            let wrong = |&(_, guard): &(usize, usize)| !holds(&case.0[G][guard], &counters);
+            let wrong = |&(_, guard): &(usize, usize)| !self.holds(case, &case.0[G][guard], &counters, false);
             failing.extend(case.guards(back as usize).filter(wrong).map(|(field, guard)| (step.place, 1, field, guard)));
         }
     }
@@ -315,7 +339,7 @@ impl Run {
             1 => self.moments.iter().map(|step| case.number(S, case.number(P, step.place, 1), 1) >> operand(2) & 1 == 1).collect(),
             2 => {
                 let seen = |moment: usize| if moment == 0 && self.mistake == StartAfterMoment0 { [0; 4] } else { self.moments[moment].counters };
-                all.map(|moment| holds(&case.0[G][operand(2)], &seen(moment))).collect()
+                all.map(|moment| self.holds(case, &case.0[G][operand(2)], &seen(moment), moment >= self.endless)).collect()
             }
             3 => all.map(|moment| at(2, moment) && at(3, moment)).collect(),
             4 => all.map(|moment| !at(2, moment)).collect(),
