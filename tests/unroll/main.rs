@@ -14,7 +14,7 @@ use library::{Answer, RESULTS};
 use mistakes::{Mistake, MISTAKES};
 use random::{misspelled, random_file, weighted, Random};
 use reader::{Case, Fields, F, KINDS, P, ROOM, T};
-use shapes::{shapes, SHAPES};
+use shapes::{endless_guards, shapes, GUARD_CASES, SHAPES};
 use std::collections::BTreeMap;
 use std::process::exit;
 
@@ -42,6 +42,7 @@ fn counting_until(case: &Case) -> bool {
 }
 
 /// What the random cases have shown.
+#[derive(Default)]
 struct Seen {
     /// How often each result came.
     results: BTreeMap<usize, usize>,
@@ -51,6 +52,8 @@ struct Seen {
     full: [usize; KINDS],
     /// By shape, cases that have it and whose run was followed.
     shaped: [usize; SHAPES.len()],
+    /// By case of a guard in the endless loop, plans with such a guard sentence, and with such a guard of a move.
+    endless: [[usize; 2]; GUARD_CASES.len()],
     /// By how many cases each mistake is found, up to `FOUND`.
     found: Vec<usize>,
     compared: usize,
@@ -68,6 +71,8 @@ impl Seen {
             }
             if answer[0] == 0 || answer[0] > 32 {
                 self.shaped.iter_mut().zip(shapes(&case, answer)).for_each(|(times, has)| *times += has as usize);
+                let has = endless_guards(&case, answer).into_iter().flatten();
+                self.endless.iter_mut().flatten().zip(has).for_each(|(times, has)| *times += has as usize);
             }
         }
         for (times, (mistake, _)) in self.found.iter_mut().zip(MISTAKES) {
@@ -93,6 +98,7 @@ impl Seen {
         let lacks = [
             (!results.is_empty(), format!("results seen too seldom, and how often: {results:?}")),
             (self.full.iter().any(|times| seldom(times)), format!("too few cases that fill the room of a kind: {:?}", self.full)),
+            (self.endless.iter().flatten().any(seldom), format!("too few guards of the endless loop in one of the six cases: {:?}", self.endless)),
             (!unlike.is_empty(), format!("plans seen too seldom, and in how many of 100 cases: {unlike:?}")),
             (accepted * 4 < self.compared, format!("only {accepted} cases are accepted")),
             (self.rich * 2 < accepted, format!("only {} accepted cases have a guarded loop and a counting until", self.rich)),
@@ -107,7 +113,7 @@ impl Seen {
 fn cases(count: usize, seed: u64) -> bool {
     let mut r = Random(seed);
     let results = RESULTS.iter().map(|&result| (result, 0)).collect();
-    let mut seen = Seen { results, rich: 0, full: [0; KINDS], shaped: [0; SHAPES.len()], found: vec![0; MISTAKES.len()], compared: 0, too_long: 0 };
+    let mut seen = Seen { results, found: vec![0; MISTAKES.len()], ..Seen::default() };
     for bytes in misspelled(&weighted(TWELVE)).into_iter().chain(std::iter::repeat_with(|| random_file(&mut r))) {
         if seen.compared == count {
             break;
@@ -128,6 +134,8 @@ fn cases(count: usize, seed: u64) -> bool {
     let found = seen.found.iter().filter(|&&times| times == FOUND).count();
     println!("unroll: how often each result: {:?}; cases that fill a room: {:?}", seen.results, seen.full);
     println!("unroll: plans, and in how many of 100 cases: {:?}", seen.shares());
+    let endless = Vec::from_iter(GUARD_CASES.iter().zip(seen.endless));
+    println!("unroll: guards of the endless loop, and how many plans have such a sentence, and such a move: {endless:?}");
     println!("unroll: cases: {count} passed, 0 failed; they find {found} of {} planted mistakes", MISTAKES.len());
     seen.enough()
 }

@@ -168,7 +168,7 @@ impl Maker<'_> {
         moves.len() as i64 - 1
     }
 
-    /// Guards for some moves, true wherever the move is taken: for most back moves, and for more of the moves from the first loop on.
+    /// Guards for some moves, true wherever the move is taken but for slips: for most back moves, and for more of the moves from the first loop on.
     fn guard_moves(&mut self, run: &Run) {
         let places = &self.case.0[P];
         let backs: Vec<i64> = places.iter().filter(|place| place[5] != Some(1)).filter_map(|place| place[6]).collect();
@@ -190,7 +190,7 @@ impl Maker<'_> {
         }
     }
 
-    /// A guard that holds at all moments at which the move is taken, mostly with nothing to spare.
+    /// A guard that holds at all moments at which the move is taken, mostly with nothing to spare; of those whose sum falls, some that just fail.
     fn true_guard(&mut self, run: &Run, number: usize) -> Option<Fields> {
         let case = &self.case;
         let taken = |step: &&Step, round| case.entry(step.place, round).is_some_and(|(_, entered)| entered == number);
@@ -203,9 +203,10 @@ impl Maker<'_> {
         }
         let mut guard = self.coefficients(self.wide, &drift)?;
         let least = uses.iter().map(|counters| guard_sum(&guard, counters)).min().unwrap_or(self.r.between(-5, 5));
-        let room = self.r.pick(&[0, 0, 0, 0, 0, 1, 2, 999_999]);
+        let falls = guard_sum(&guard, &drift) < 0;
+        let room = if falls && self.r.chance(40) { -1 } else { self.r.pick(&[0, 0, 0, 0, 0, 1, 2, 999_999]) };
         guard[5] = Some((least - room).clamp(LOWEST, HIGHEST));
-        (guard[5] <= Some(least)).then_some(guard)
+        (guard[5] <= Some(least.max(least - room))).then_some(guard)
     }
 
     /// Coefficients of a guard whose sum at the start is a bound that a field can spell; none where a few draws give no such.

@@ -1,6 +1,6 @@
-//! What plans must be like for a wrong sum of a round to show: several counted loops, of one place and of more, next to each other and apart; and for
-//! a wrong start: weights of all sizes, which the answer depends on.
-use crate::checker::judge;
+//! What plans must be like for a wrong sum of a round to show: several counted loops, of one place and of more, next to each other and apart; for
+//! a wrong start: weights of all sizes, which the answer depends on; and for a wrong guard of the endless loop: each of its six cases.
+use crate::checker::{guard_sum, judge, Run};
 use crate::library::Answer;
 use crate::mistakes::Mistake;
 use crate::random::{HIGHEST, LOWEST};
@@ -65,4 +65,38 @@ fn refused_without_weights(case: &Case) -> bool {
     let mut without = case.clone();
     without.0[W].clear();
     judge(&without, Mistake::Nothing, STEPS).is_ok_and(|answer| answer[0] != 0)
+}
+
+/// The six cases of a guard in the endless loop: how its sum goes with each round, and where it is to the bound the first time it is tested.
+pub const GUARD_CASES: [&str; 6] = ["rises, at or above", "rises, below", "stays, at or above", "stays, below", "falls, at or above", "falls, below"];
+
+/// Which of them it is, by what a round adds to the counters and what they are the first time.
+fn guard_case(guard: &Fields, adds: &[i64; 4], first: &[i64; 4]) -> usize {
+    let way = match guard_sum(guard, adds) {
+        1.. => 0,
+        0 => 1,
+        _ => 2,
+    };
+    2 * way + (Some(guard_sum(guard, first)) < guard[5]) as usize
+}
+
+/// For each of them, whether the endless loop has such a guard sentence, if they are looked at (after 33 they aren't), and such a guard of a move.
+/// The first time is in round 1, of a back move in round 2.
+pub fn endless_guards(case: &Case, answer: Answer) -> [[bool; 2]; GUARD_CASES.len()] {
+    let mut has = [[false; 2]; GUARD_CASES.len()];
+    let Ok(run) = Run::new(case, Mistake::Nothing, STEPS) else { return has };
+    let round_one = &run.moments[run.endless..];
+    let adds = case.added_by(case.second_round(round_one[0].place));
+    for step in round_one {
+        for sentence in case.0[F].iter().filter(|sentence| sentence[1] == Some(2) && answer[0] != 33) {
+            let guard = sentence[2].expect("a guard") as usize;
+            has[guard_case(&case.0[G][guard], &adds, &step.counters)][0] = true;
+        }
+        let (way, number) = case.entry(step.place, 2).expect("a way into it");
+        let first = std::array::from_fn(|counter| step.counters[counter] + way as i64 * adds[counter]);
+        for (_, guard) in case.guards(number) {
+            has[guard_case(&case.0[G][guard], &adds, &first)][1] = true;
+        }
+    }
+    has
 }
