@@ -1,11 +1,12 @@
 -- The table of courses is right, line by line: of an arithmetic progression against a bound, and so of a guard at a place of the endless loop. Assumes nothing.
 use mathlib.Core.Path.{_≡_, refl, fun-ext}
 use mathlib.Core.Logic.{_↔_}
+use mathlib.Core.Bool.{Bool, true, false, cond}
 use Prim.Native.Nat.{ℕ, zero, suc, _+_, _≤_, _<_}
 use native.Mathlib.Omega.{arith}
 use lib.IntN.{ℤ, pos, negsuc}
 use lib.Signed.{leZ, _≤ℤ_, _<ℤ_, ≤ℤ-refl, clashℤ}
-use borrow.Author.Tests.{lt-ltb}
+use borrow.Author.Tests.{lt-ltb, le-leb, lt-leb}
 use Rattle.laws.specs.Tests.{cond-by}
 use Rattle.laws.specs.Arithmetic.{le-in, lt-in, lt-out, tells-leZ, not-leZ}
 use Rattle.laws.specs.Sizes.{size}
@@ -22,7 +23,9 @@ use Rattle.verdict.specs.declared.Side.{Side}
 use Rattle.verdict.specs.declared.Side.the-variants.{AtOrAbove, Below}
 use Rattle.verdict.specs.declared.Course.{Course}
 use Rattle.verdict.specs.declared.Course.the-variants.{AlwaysTrue, AlwaysFalse, TrueThenFalse, FalseThenTrue}
-use Rattle.verdict.specs.Rounds.{trend, side, course}
+use Rattle.verdict.specs.declared.Throughout.the-variants.{Always, Never, Changes}
+use Rattle.verdict.specs.declared.Rounds.the-variants as rounds
+use Rattle.verdict.specs.Rounds.{trend, side, course, overall, through}
 
 -- ---- the words
 
@@ -73,3 +76,18 @@ pub table-right : (x : Items) (laid : Laid (x .places)) (θ : Valuation) (g : Gu
 table-right x laid θ g t =
     let e : (λ k. Met x laid θ g t (time x laid θ g t k)) ≡ Reaches (sumAtFirst x laid θ g t) (roundAdds x laid θ g t) (g .bound) = fun-ext (met-then x laid θ g t) in
     rw e (goes-so (sumAtFirst x laid θ g t) (roundAdds x laid θ g t) (g .bound))
+
+-- ---- the same by two tests
+
+by-tests : (t : Bool) (d : ℤ) → overall (course (trend d) (cond t AtOrAbove Below)) ≡ cond t (cond (leZ (pos 0) d) Always Changes) (cond (leZ d (pos 0)) Never Changes)
+by-tests true (pos zero) = refl
+by-tests true (pos (suc e)) = rw (lt-ltb 0 (suc e) (omega arith), le-leb 0 (suc e) (omega arith))
+by-tests true (negsuc e) = refl
+by-tests false (pos zero) = refl
+by-tests false (pos (suc e)) = rw (lt-ltb 0 (suc e) (omega arith), lt-leb (suc e) 0 (omega arith))
+by-tests false (negsuc e) = refl
+
+-- over all rounds: of a sum that begins at or above the bound, whether it falls; of one that begins below, whether it rises
+pub ever-tests : (a d b : ℤ) → through a d b rounds.Ever ≡ cond (leZ b a) (cond (leZ (pos 0) d) Always Changes) (cond (leZ d (pos 0)) Never Changes)
+unfolding through
+ever-tests a d b = by-tests (leZ b a) d
