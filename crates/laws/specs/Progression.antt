@@ -40,20 +40,20 @@ earlier-too a (negsuc e) b u k n h m =
 abbrev pub gap : ℤ → ℤ → ℕ
 gap a b = (up b + down a) - (up a + down b)
 
--- how many steps of s it takes to go n: n divided by s, rounded up
-unfoldable pub steps : ℕ → ℕ → ℕ
-steps n s = (n + (s - 1)) / s
+-- n divided by s, rounded up: how many steps of s it takes to go n
+unfoldable pub ceilDiv : ℕ → ℕ → ℕ
+ceilDiv n s = (n + (s - 1)) / s
 
 -- k steps go n, or they are too few
-pub steps-enough : (n s k : ℕ) → 1 ≤ s → (steps n s ≤ k) ↔ (n ≤ k * s)
-unfolding steps
-steps-enough n s k h =
+pub ceil-enough : (n s k : ℕ) → 1 ≤ s → (ceilDiv n s ≤ k) ↔ (n ≤ k * s)
+unfolding ceilDiv
+ceil-enough n s k h =
     let e = div-lt-iff-lt-mul {k = s} {x = n + (s - 1)} {y = suc k} h in
     (λ l. let w = e .0 (omega arith) in omega arith, λ l. let w = e .1 (omega arith) in omega arith)
 
-pub steps-few : (n s k : ℕ) → 1 ≤ s → (k < steps n s) ↔ (k * s < n)
-unfolding steps
-steps-few n s k h =
+pub ceil-few : (n s k : ℕ) → 1 ≤ s → (k < ceilDiv n s) ↔ (k * s < n)
+unfolding ceilDiv
+ceil-few n s k h =
     let e = le-div-iff-mul-le {k = s} {x = suc k} {y = n + (s - 1)} h in
     (λ l. let w = e .0 (omega arith) in omega arith, λ l. let w = e .1 (omega arith) in omega arith)
 
@@ -69,18 +69,18 @@ module _ (a d b : ℤ) where
   none-reach u h k m = clashℤ h (rw line-zero at (earlier-too a d b u 0 k (omega arith) m))
 
 -- it rises: from where it has gone up to the bound
-pub reach-from : (a d b : ℤ) → pos 0 <ℤ d → (k : ℕ) → Reaches a d b k ↔ (steps (gap a b) (size d) ≤ k)
+pub reach-from : (a d b : ℤ) → pos 0 <ℤ d → (k : ℕ) → Reaches a d b k ↔ (ceilDiv (gap a b) (size d) ≤ k)
 reach-from a (pos e) b u k =
-    let enough = steps-enough (gap a b) (size (pos e)) k (omega (arith, lt-out u)) in
+    let enough = ceil-enough (gap a b) (size (pos e)) k (omega (arith, lt-out u)) in
     let r = add-rel a (pos (k * e)) in
     (λ m. enough .1 (omega (arith, le-out m, r)), λ l. le-in (omega (arith, enough .0 l, r)))
 reach-from a (negsuc e) b u k = absurd (u .lt)
 
 -- it begins at or above the bound and falls: until it has gone down by one more than it is above
-pub reach-until : (a d b : ℤ) → d <ℤ pos 0 → b ≤ℤ a → (k : ℕ) → Reaches a d b k ↔ (k < steps (gap b a + 1) (size d))
+pub reach-until : (a d b : ℤ) → d <ℤ pos 0 → b ≤ℤ a → (k : ℕ) → Reaches a d b k ↔ (k < ceilDiv (gap b a + 1) (size d))
 reach-until a (pos e) b u h k = absurd (omega (arith, lt-out u))
 reach-until a (negsuc e) b u h k =
-    let few = steps-few (gap b a + 1) (size (negsuc e)) k (omega arith) in
+    let few = ceil-few (gap b a + 1) (size (negsuc e)) k (omega arith) in
     let r = add-rel a (pos k *ℤ negsuc e) in
     let n = neg-rel (pos (k * suc e)) in
     (λ m. few .1 (omega (arith, le-out m, le-out h, r, n)), λ l. le-in (omega (arith, few .0 l, le-out h, r, n)))

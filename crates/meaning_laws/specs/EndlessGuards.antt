@@ -16,7 +16,7 @@ use lib.Signed.{_≤ℤ_, _<ℤ_, ≤ℤ-refl}
 use lib.ListN.{length, getD}
 use Rattle.laws.specs.Arithmetic.{le-in, lt-out}
 use Rattle.laws.specs.Sizes.{size}
-use Rattle.laws.specs.Progression.{line-suc, Reaches, gap, steps, all-reach, none-reach, reach-from, reach-until}
+use Rattle.laws.specs.Progression.{line-suc, Reaches, gap, ceilDiv, all-reach, none-reach, reach-from, reach-until}
 use Rattle.kinds.specs.declared.Kind.the-variants as kind
 use Rattle.counters.specs.Sum.{Valuation, sum}
 use Rattle.items.specs.declared.Form.the-variants as form
@@ -67,10 +67,6 @@ module _ (x : Items) (laid : Laid (x .places)) (c : Closed x) where
         );
       }
 
-  -- place p of the endless loop, counted from its first
-  in-loop : (p : ℕ) → c .first ≤ p → p < length ps → (c .first + (p - c .first) ≡ p) × (p - c .first < L)
-  in-loop p l h = (omega arith, omega (arith, laid .last (c .first) (c .endless)))
-
   -- as a guard of the move into a place of the endless loop, but its first: from round 0 on
   pub as-way-in : (p : ℕ) → c .first < p → p < length (x .places) → EachRound (x .places) 0 (ComesBy (x .places) (record { place = p; back = false }))
   as-way-in p l h =
@@ -86,10 +82,12 @@ module _ (x : Items) (laid : Laid (x .places)) (c : Closed x) where
   -- as a sentence at a place of the endless loop: from round 0 on
   pub as-sentence : (p : ℕ) → c .first ≤ p → p < length (x .places) → EachRound (x .places) 0 (λ m. here (spot (x .places) m) ≡ p)
   as-sentence p l h =
-      let (e, w) = in-loop p l h in
-      each-round 0 (p - c .first) w (λ m. (
-        λ d. let (r, a) = found x laid c m (p - c .first) (d ∙ sym e) in (r, omega arith, a),
-        λ (r, z, a). ap (λ i. here (spot ps i)) a ∙ ap here (there x laid c r (p - c .first) w) ∙ e,
+      let o : ℕ = p - c .first in
+      let e : c .first + o ≡ p = omega arith in
+      let w : o < L = omega (arith, laid .last (c .first) (c .endless)) in
+      each-round 0 o w (λ m. (
+        λ d. let (r, a) = found x laid c m o (d ∙ sym e) in (r, omega arith, a),
+        λ (r, z, a). ap (λ i. here (spot ps i)) a ∙ ap here (there x laid c r o w) ∙ e,
       ))
 
   -- a guard of the move into its first place is tested once, and doesn't go by the six cases
@@ -109,11 +107,11 @@ module _ (x : Items) (laid : Laid (x .places)) (θ : Valuation) (g : Guard) {n :
 
   -- the round in which it has risen to the bound: what it is below, divided by what a round adds, rounded up
   abbrev pub risenBy : ℕ
-  risenBy = n + steps (gap sumAtFirst (g .bound)) (size roundAdds)
+  risenBy = n + ceilDiv (gap sumAtFirst (g .bound)) (size roundAdds)
 
   -- the round in which it has fallen below the bound: one more than it is above, divided by what a round takes, rounded up
   abbrev pub fallenBy : ℕ
-  fallenBy = n + steps (gap (g .bound) sumAtFirst + 1) (size roundAdds)
+  fallenBy = n + ceilDiv (gap (g .bound) sumAtFirst + 1) (size roundAdds)
 
   -- the guard is true at moment m
   abbrev pub Met : Moment → Type 0
