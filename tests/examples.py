@@ -1,25 +1,18 @@
 #!/usr/bin/env python3
 """examples.py PROGRAM: the examples, each spelled by tools/case, give the lines that their first comments say; and tools/case itself.
 
-PROGRAM reads a case file from standard input and prints its line. docs/standby-guards.md has six of the examples, word for word, and a table that
-says what its definition says. tools/case is tested on the records of the stored cases, there and back, against the spelling of tests/cases.py, and on
-notation and bytes that it must refuse.
+PROGRAM reads a case file from standard input and prints its line. tools/case is tested on the records of the stored cases, there and back,
+against the spelling of tests/cases.py, and on notation and bytes that it must refuse.
 """
 import os
-import re
 import subprocess
 import sys
 
 from cases import LENGTH, ROOT, TWELVE, pack, stored
-from pages import CRATES, blocks, table
 from tally import Tally
 
 EXAMPLES = ROOT / "examples"
-PAGE = ROOT / "docs" / "standby-guards.md"
 TOOL = ROOT / "tools" / "case"
-# The definition's names, and the page's words for them.
-SIDES = {"AtOrAbove": "above", "Below": "below"}
-COURSES = {"AlwaysTrue": "true every time", "AlwaysFalse": "false every time", "TrueThenFalse": "true, then false", "FalseThenTrue": "false, then true"}
 KINDS = "is none of S, W, G, T, F, P"
 RECORD = TWELVE[4 * LENGTH:5 * LENGTH]  # its field 3 is 1250
 
@@ -109,33 +102,6 @@ def examples(tally, program):
     return len(files)
 
 
-def shown(name):
-    """An example as the page has it: what stands below its head of comments, and its line."""
-    head, records = (EXAMPLES / name).read_text().split("\n\n", 1)
-    return records.splitlines() + [head.split("\n")[0].replace("# gives: ", "gives ")]
-
-
-def courses():
-    """How the truth of a guard goes in the endless loop, by how its sum goes and where it is the first time: the definition, in the page's words."""
-    source = (CRATES / "verdict" / "specs" / "Rounds.antt").read_text(encoding="utf-8")
-    lines = re.findall(r"^course (\w+) (\w+) = (\w+)$", source, re.M)
-    return {(trend.lower(), SIDES[side]): COURSES[course] for trend, side, course in lines}
-
-
-def page(tally):
-    """The page's table says for each of the six cases what the definition says, and names its example; the blocks are these, in that order, and no others."""
-    text = PAGE.read_text(encoding="ascii")
-    cases = [(trend, side) for trend in ("rises", "stays", "falls") for side in ("above", "below")]
-    names = {case: f"standby-{'-'.join(case)}.case" for case in cases}
-    said = courses()
-    cells = [(trend, cell) for trend, *cells in table(text, "| with each round the sum |") for cell in cells]
-    tally.equal(f"{PAGE.name}: the table", [(case[0], f"{said.get(case)}: `{names[case]}`") for case in cases], cells)
-    found = blocks(text, "case")
-    tally.equal(f"{PAGE.name}: blocks, and all fences", (len(cases), 2 * len(cases)), (len(found), text.count("```")))
-    for name, (first, lines) in zip(names.values(), found):
-        tally.equal(f"{PAGE.name}: {name}, from line {first} on", shown(name), lines)
-
-
 def records_there_and_back(tally):
     """The records of the stored cases, those without edits of their bytes."""
     records = [record for stored_case in stored() if not stored_case.edits for record in stored_case.records.split("/") if record]
@@ -154,7 +120,6 @@ def main():
     tally = Tally("examples")
     tally.equal("tools/case can be run", True, os.access(TOOL, os.X_OK))
     files = examples(tally, os.path.abspath(sys.argv[1]))
-    page(tally)
     records = records_there_and_back(tally)
     for text, want in ALSO_NOTATION:
         tally.equal(repr(text), taken(b"".join(map(pack, want))), case("spell", text.encode()))

@@ -183,7 +183,7 @@ impl Maker<'_> {
                 if !self.r.chance(chance) || self.case.0[G].len() >= 28 {
                     break;
                 }
-                let Some(guard) = self.true_guard(run, number) else { break };
+                let Some(guard) = self.close_guard(run, number) else { break };
                 self.case.0[T][number][field] = Some(self.case.0[G].len() as i64);
                 self.case.0[G].push(guard);
             }
@@ -191,7 +191,7 @@ impl Maker<'_> {
     }
 
     /// A guard that holds at all moments at which the move is taken, mostly with nothing to spare; of those whose sum falls, some that just fail.
-    fn true_guard(&mut self, run: &Run, number: usize) -> Option<Fields> {
+    fn close_guard(&mut self, run: &Run, number: usize) -> Option<Fields> {
         let case = &self.case;
         let taken = |step: &&Step, round| case.entry(step.place, round).is_some_and(|(_, entered)| entered == number);
         let mut uses: Vec<[i64; 4]> = run.moments.iter().filter(|step| taken(step, step.round)).map(|step| step.counters).collect();

@@ -1,5 +1,5 @@
--- Sums and products of integers, for `omega`: z is up z − down z, and each operation is an equation of naturals. `omega (sums, add-rel a b, ..)`
--- reads _≤ℤ_ in the hypotheses that are listed by `le-out`, and proves it under `le-in`. Assumes nothing.
+-- Sums and products of integers, for `omega`: z is up z − down z, and each operation is an equation of naturals. `omega (arith, add-rel a b, ..)`
+-- reads _≤ℤ_ and _<ℤ_ in the hypotheses that are listed by `le-out` and `lt-out`, and proves them under `le-in` and `lt-in`. Assumes nothing.
 use mathlib.Core.Path.{_≡_, refl, sym, _∙_, ap, ap₂}
 use mathlib.Core.Logic.{_⊎_, inl, inr}
 use mathlib.Core.Bool.{Bool, true, false, cond}

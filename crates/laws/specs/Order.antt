@@ -40,9 +40,9 @@ test-not-le (pos a) (negsuc b) t = omega arith
 test-not-le (negsuc a) (pos b) t = absurd t
 test-not-le (negsuc a) (negsuc b) t = omega (arith, nleb→lt b a t)
 
-told : (t : Bool) → (T (not t) → ⊥) → t ≡ true
-told true h = refl
-told false h = absurd (h tt)
+unrefuted : (t : Bool) → (T (not t) → ⊥) → t ≡ true
+unrefuted true h = refl
+unrefuted false h = absurd (h tt)
 
 refuted : (t : Bool) → (T t → ⊥) → t ≡ false
 refuted true h = absurd (h tt)
@@ -62,13 +62,13 @@ pub lt-false : (a b : ℤ) → ltZ a b ≡ false → up b + down a ≤ up a + do
 lt-false a b e = test-not-lt a b (subst (λ t. T (not t)) (sym e) tt)
 
 pub true-le : (a b : ℤ) → up a + down b ≤ up b + down a → leZ a b ≡ true
-true-le a b h = told (leZ a b) (λ t. let k : up b + down a < up a + down b = test-not-le a b t in omega arith)
+true-le a b h = unrefuted (leZ a b) (λ t. let k : up b + down a < up a + down b = test-not-le a b t in omega arith)
 
 pub false-le : (a b : ℤ) → up b + down a < up a + down b → leZ a b ≡ false
 false-le a b h = refuted (leZ a b) (λ t. let k : up a + down b ≤ up b + down a = test-le a b t in omega arith)
 
 pub true-lt : (a b : ℤ) → up a + down b < up b + down a → ltZ a b ≡ true
-true-lt a b h = told (ltZ a b) (λ t. let k : up b + down a ≤ up a + down b = test-not-lt a b t in omega arith)
+true-lt a b h = unrefuted (ltZ a b) (λ t. let k : up b + down a ≤ up a + down b = test-not-lt a b t in omega arith)
 
 pub false-lt : (a b : ℤ) → up b + down a ≤ up a + down b → ltZ a b ≡ false
 false-lt a b h = refuted (ltZ a b) (λ t. let k : up a + down b < up b + down a = test-lt a b t in omega arith)

@@ -23,7 +23,7 @@ line-suc a d k = ap (a +ℤ_) (sucℤ-*ℤ (pos k) d) ∙ sym (+ℤ-assoc a (pos
 abbrev pub Reaches : ℤ → ℤ → ℤ → ℕ → Type 0
 Reaches a d b k = b ≤ℤ (a +ℤ pos k *ℤ d)
 
--- where it never falls, later terms do too; where it never rises, earlier ones did
+-- where it never falls, later terms are at least b too; where it never rises, earlier ones are
 pub later-too : (a d b : ℤ) → pos 0 ≤ℤ d → (k n : ℕ) → k ≤ n → Reaches a d b k → Reaches a d b n
 later-too a (pos e) b u k n h m = le-in (omega (arith, le-out m, add-rel a (pos (k * e)), add-rel a (pos (n * e)), mul-le-mul-right e h))
 later-too a (negsuc e) b u k n h m = absurd (u .le)
@@ -45,13 +45,13 @@ unfoldable pub ceilDiv : ℕ → ℕ → ℕ
 ceilDiv n s = (n + (s - 1)) / s
 
 -- k steps go n, or they are too few
-pub ceil-enough : (n s k : ℕ) → 1 ≤ s → (ceilDiv n s ≤ k) ↔ (n ≤ k * s)
+ceil-enough : (n s k : ℕ) → 1 ≤ s → (ceilDiv n s ≤ k) ↔ (n ≤ k * s)
 unfolding ceilDiv
 ceil-enough n s k h =
     let e = div-lt-iff-lt-mul {k = s} {x = n + (s - 1)} {y = suc k} h in
     (λ l. let w = e .0 (omega arith) in omega arith, λ l. let w = e .1 (omega arith) in omega arith)
 
-pub ceil-few : (n s k : ℕ) → 1 ≤ s → (k < ceilDiv n s) ↔ (k * s < n)
+ceil-few : (n s k : ℕ) → 1 ≤ s → (k < ceilDiv n s) ↔ (k * s < n)
 unfolding ceilDiv
 ceil-few n s k h =
     let e = le-div-iff-mul-le {k = s} {x = suc k} {y = n + (s - 1)} h in
@@ -68,7 +68,7 @@ module _ (a d b : ℤ) where
   pub none-reach : d ≤ℤ pos 0 → a <ℤ b → (k : ℕ) → Reaches a d b k → ⊥
   none-reach u h k m = clashℤ h (rw line-zero at (earlier-too a d b u 0 k (omega arith) m))
 
--- it rises: from where it has gone up to the bound
+-- it rises: at least b from the term on by which it has gone up as far as it was below
 pub reach-from : (a d b : ℤ) → pos 0 <ℤ d → (k : ℕ) → Reaches a d b k ↔ (ceilDiv (gap a b) (size d) ≤ k)
 reach-from a (pos e) b u k =
     let enough = ceil-enough (gap a b) (size (pos e)) k (omega (arith, lt-out u)) in
@@ -76,7 +76,7 @@ reach-from a (pos e) b u k =
     (λ m. enough .1 (omega (arith, le-out m, r)), λ l. le-in (omega (arith, enough .0 l, r)))
 reach-from a (negsuc e) b u k = absurd (u .lt)
 
--- it begins at or above the bound and falls: until it has gone down by one more than it is above
+-- it begins at or above the bound and falls: at least b before the term by which it has gone down by one more than it was above
 pub reach-until : (a d b : ℤ) → d <ℤ pos 0 → b ≤ℤ a → (k : ℕ) → Reaches a d b k ↔ (k < ceilDiv (gap b a + 1) (size d))
 reach-until a (pos e) b u h k = absurd (omega (arith, lt-out u))
 reach-until a (negsuc e) b u h k =

@@ -1,10 +1,12 @@
 -- A guard that is tested at one place of the endless loop, round after round, by six cases: its sum rises, stays or falls with each round, and is at or
 -- above its bound the first time that it is tested, or below it. Said of the run, from any start; nothing here is what a checker computes. Assumes nothing.
 --
--- Document 003 tests a guard at the first and at the last visit of a place, for a back move at the second and at the last: a round adds the same each time,
--- so that the two decide. The endless loop has no last round, and a limit stands for it: infinite where the second visit has more than the first, minus
--- infinite where it has less, else the same; infinite meets every bound, minus infinite none. 003 takes the limit of each counter, and so leaves open what a
--- guard is where they go off against each other; here it is that of the guard's sum. Its two tests stand beside each case in brackets.
+-- Document 003 tests a guard of a move at the first and at the last visit of its place, a guard of a back move at the second and at the last, and one of the
+-- move into a loop's first place at the first alone: a round adds the same each time, so that the two decide. A guard sentence it takes for a guard of every
+-- move into the place, and where it isn't marked for the dual one. The endless loop has no last round, and a limit stands for it: infinity where the second
+-- visit has more than the first, minus infinity where it has less, else the same; infinity meets every bound, minus infinity none. 003 takes the limit of
+-- each counter, and so leaves open what a guard is where they go off against each other; here it is the limit of the guard's sum. What 003's two tests come
+-- to stands in brackets beside each case.
 use mathlib.Core.Path.{_≡_, sym, _∙_, ap, subst}
 use mathlib.Core.Logic.{_↔_}
 use mathlib.Core.List.{List}
@@ -28,9 +30,9 @@ use Rattle.meaning.specs.Run.{Moment, Spot, here, stretch, spot, countersAt, Me
 use Rattle.meaning.specs.Drift.{drift}
 use Rattle.meaning.specs.Judged.{TrueAt, Test, Passes}
 use Rattle.meaning_laws.specs.Facts.{Laid}
-use Rattle.meaning_laws.specs.OneRound.{rounds-later, counters-later}
+use Rattle.meaning_laws.specs.OneRound.{rounds-later, counters-rounds-later}
 use Rattle.meaning_laws.specs.Between.{sum-line}
-use Rattle.meaning_laws.specs.EndlessTimes.{ComesBy, moment, there, found, inner-times, back-times, comes-once}
+use Rattle.meaning_laws.specs.EndlessTimes.{ComesBy, moment, there, in-some-round, inner-times, back-times, comes-once}
 
 -- ---- when it is tested
 
@@ -86,11 +88,11 @@ module _ (x : Items) (laid : Laid (x .places)) (c : Closed x) where
       let e : c .first + o ≡ p = omega arith in
       let w : o < L = omega (arith, laid .last (c .first) (c .endless)) in
       each-round 0 o w (λ m. (
-        λ d. let (r, a) = found x laid c m o (d ∙ sym e) in (r, omega arith, a),
+        λ d. let (r, a) = in-some-round x laid c m o (d ∙ sym e) in (r, omega arith, a),
         λ (r, z, a). ap (λ i. here (spot ps i)) a ∙ ap here (there x laid c r o w) ∙ e,
       ))
 
-  -- a guard of the move into its first place is tested once, and doesn't go by the six cases
+  -- a guard of the move into its first place is tested at most once (never where the plan begins there), and doesn't go by the six cases
   pub way-in-once : (m n : Moment) → ComesBy (x .places) (record { place = c .first; back = false }) m → ComesBy (x .places) (record { place = c .first; back = false }) n → m ≡ n
   way-in-once m n a b = comes-once x laid c m a ∙ sym (comes-once x laid c n b)
 
@@ -105,11 +107,11 @@ module _ (x : Items) (laid : Laid (x .places)) (θ : Valuation) (g : Guard) {n :
   abbrev pub roundAdds : ℤ
   roundAdds = sum (g .coefficients .at) (λ j. drift x j (spot (x .places) (t .first) .first))
 
-  -- the round in which it has risen to the bound: what it is below, divided by what a round adds, rounded up
+  -- the round in which it has risen to the bound: from round n on, in which it is first tested, what it is below, divided by what a round adds, rounded up
   abbrev pub risenBy : ℕ
   risenBy = n + ceilDiv (gap sumAtFirst (g .bound)) (size roundAdds)
 
-  -- the round in which it has fallen below the bound: one more than it is above, divided by what a round takes, rounded up
+  -- the round in which it has fallen below the bound: from round n on, one more than it is above, divided by what a round takes, rounded up
   abbrev pub fallenBy : ℕ
   fallenBy = n + ceilDiv (gap (g .bound) sumAtFirst + 1) (size roundAdds)
 
@@ -128,7 +130,7 @@ module _ (x : Items) (laid : Laid (x .places)) (θ : Valuation) (g : Guard) {n :
   sum-then : (k : ℕ) → sumThen k ≡ sumAtFirst +ℤ pos k *ℤ roundAdds
   sum-then k =
       sum-line (g .coefficients .at) (countersAt x θ (t .first)) (λ j. drift x j (spot (x .places) (t .first) .first)) (countersAt x θ (time k)) k
-      (counters-later x laid (t .first) (t .endless) θ k)
+      (counters-rounds-later x laid (t .first) (t .endless) θ k)
 
   -- each round adds the same to it
   pub adds-each : (k : ℕ) → sumThen (suc k) ≡ sumThen k +ℤ roundAdds
@@ -177,7 +179,7 @@ module _ (x : Items) (laid : Laid (x .places)) (θ : Valuation) (g : Guard) {n :
 
 -- ---- what it decides
 
--- a guard of a move: 33 isn't given for it where it is true each time that the run comes by its way
+-- a guard of a move passes, so that 33 isn't given for it, exactly where it is true each time that the run comes by its way
 pub passes-each : (x : Items) (θ : Valuation) (t : Test) →
     Passes x θ t ↔ ((m : Moment) → ComesBy (x .places) (t .way) m → Meets (guardAt (x .guards) (t .guard)) (countersAt x θ m))
 passes-each x θ t = (each, λ f. record { met = λ m e. f (suc m) e })

@@ -13,8 +13,8 @@ use Rattle.items.specs.Lists.{Items}
 use Rattle.rules.specs.Rules.{markAt, Closed}
 use Rattle.meaning.specs.Run.{Moment, Spot, Step, Way, here, stretch, next, spot, wayTaken}
 use Rattle.meaning_laws.specs.Facts.{Laid}
-use Rattle.meaning_laws.specs.Walk.{spotAt, next-on, next-back, in-stretch, endless-long, endless-goes, Reached, reach-endless}
-use Rattle.meaning_laws.specs.Stays.{inside, next-by}
+use Rattle.meaning_laws.specs.Walk.{spotAt, next-on, next-back, in-stretch, endless-goes, Reached, reach-endless}
+use Rattle.meaning_laws.specs.Stays.{inside, ends-before, next-by}
 
 -- the run comes to moment m by way w
 abbrev pub ComesBy : List Place → Way → Moment → Type 0
@@ -44,16 +44,14 @@ module _ (x : Items) (laid : Laid (x .places)) (c : Closed x) where
   there r o h = in-stretch ps q (to .moment) (laid .long q) (to .there) r o (λ i l. endless-goes (markAt ps q) (c .endless) i) h
 
   -- it isn't there before
-  early : (m : Moment) → m < to .moment → here (spot ps m) < q
-  early m l =
-      let (e, n) = endless-long (markAt ps q) (c .endless) in
-      omega (arith, to .before m l, laid .apart (spot ps m .first) q (to .before m l) (omega (arith, e, c .whole, laid .long q)) n, inside x laid m)
+  not-before : (m : Moment) → m < to .moment → here (spot ps m) < q
+  not-before m l = omega (arith, ends-before x laid c (spot ps m .first) (to .before m l), inside x laid m)
 
-  -- at one of its places, it is so in some round
-  pub found : (m : Moment) (o : ℕ) → here (spot (x .places) m) ≡ c .first + o → (r : ℕ) × (m ≡ moment r o)
-  found m o e =
+  -- a moment at its place o is that of one of its rounds
+  pub in-some-round : (m : Moment) (o : ℕ) → here (spot (x .places) m) ≡ c .first + o → (r : ℕ) × (m ≡ moment r o)
+  in-some-round m o e =
       elim (decLt m (to .moment)) [
-        | yes l ↦ absurd (omega (arith, early m l))
+        | yes l ↦ absurd (omega (arith, not-before m l))
         | no l ↦
             let i : ℕ = m - to .moment in
             let w : m ≡ moment (i / L) (i % L) = omega (arith, div-add-mod' i L) in
@@ -85,7 +83,7 @@ module _ (x : Items) (laid : Laid (x .places)) (c : Closed x) where
       ComesBy (x .places) (record { place = c .first + suc o; back = false }) m ↔ ((r : ℕ) × (0 ≤ r) × (m ≡ moment r (suc o)))
   inner-times o h zero = (λ e. absurd e, λ (r, l, d). absurd (omega arith))
   inner-times o h (suc m) = (
-    λ e. let (r, d) = found (suc m) (suc o) (ap (λ (w : Way). w .place) e) in (r, omega arith, d),
+    λ e. let (r, d) = in-some-round (suc m) (suc o) (ap (λ (w : Way). w .place) e) in (r, omega arith, d),
     λ (r, l, d). let w : m ≡ moment r o = omega arith in ap (wayTaken ps) w ∙ by-move r o h,
   )
 
@@ -100,7 +98,7 @@ module _ (x : Items) (laid : Laid (x .places)) (c : Closed x) where
       late : ((r : ℕ) × (1 ≤ r) × (0 ≡ moment r 0)) → ⊥
       late (zero, l, d) = omega arith
       late (suc r, l, d) = omega (arith, laid .long q)
-  back-times (suc m) = (λ e. by-round e (found (suc m) 0 (ap (λ (w : Way). w .place) e ∙ sym (add-zero q))), taken)
+  back-times (suc m) = (λ e. by-round e (in-some-round (suc m) 0 (ap (λ (w : Way). w .place) e ∙ sym (add-zero q))), taken)
     where
       by-round : wayTaken ps m ≡ record { place = q; back = true } → (r : ℕ) × (suc m ≡ moment r 0) → (r : ℕ) × (1 ≤ r) × (suc m ≡ moment r 0)
       by-round e (zero, d) =
@@ -115,7 +113,7 @@ module _ (x : Items) (laid : Laid (x .places)) (c : Closed x) where
   -- by the move into the first place: once
   pub comes-once : (m : Moment) → ComesBy (x .places) (record { place = c .first; back = false }) m → m ≡ to .moment
   comes-once zero e = absurd e
-  comes-once (suc m) e = by-round (found (suc m) 0 (ap (λ (w : Way). w .place) e ∙ sym (add-zero q)))
+  comes-once (suc m) e = by-round (in-some-round (suc m) 0 (ap (λ (w : Way). w .place) e ∙ sym (add-zero q)))
     where
       by-round : (r : ℕ) × (suc m ≡ moment r 0) → suc m ≡ to .moment
       by-round (zero, d) = omega arith

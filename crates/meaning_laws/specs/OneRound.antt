@@ -1,5 +1,5 @@
 -- One round later the counters at a place are more by exactly the drift of its loop, from any start: by what a case keeps with a loop that has closed.
--- Assumes nothing.
+-- In an endless loop, k rounds later by k times the drift. Assumes nothing.
 use mathlib.Core.Path.{_≡_, refl, sym, _∙_, ap}
 use mathlib.Core.List.{List}
 use mathlib.Core.Bool.{true, true≢false}
@@ -41,20 +41,21 @@ module _ (x : Items) where
   unfolding countersAt spot
   step-adds θ j m e d = ap (λ (y : Step). countersAt x θ m j +ℤ update (moveBy x (record { place = here (y .to); back = y .back })) j) (ap (next ps) e ∙ d)
 
-  -- n places on in a round: the ways into them
+  -- n places on in a round the counter is more by the ways into them: by what a round adds up to there, less what it adds up to here
   ways-add : (θ : Valuation) (j q o r : ℕ) (m : Moment) → spot (x .places) m ≡ spotAt q o r → (n : ℕ) → o + n < stretch (markAt (x .places) q) →
       countersAt x θ (m + n) j +ℤ onceAround x j q o ≡ countersAt x θ m j +ℤ onceAround x j q (o + n)
   unfolding onceAround
   ways-add θ j q o r m e zero h = rw (add-zero m, add-zero o)
   ways-add θ j q o r m e (suc n) h =
-      let here = along ps q m e n refl refl (omega arith) in
-      let step = rw (add-one (o + n)) at (step-adds θ j (m + n) here (next-on ps q (o + n) r (omega arith))) in
+      let reached = along ps q m e n refl refl (omega arith) in
+      let step = rw (add-one (o + n)) at (step-adds θ j (m + n) reached (next-on ps q (o + n) r (omega arith))) in
       rw (add-suc m n, add-suc o n, step, swap-last, ways-add θ j q o r m e n (omega arith), +ℤ-assoc)
 
-  -- the same place, a round on: the rest of the round, the back move, and the round up to there
-  rest-and-again : (z end begin last b s d : ℤ) → last +ℤ s ≡ z +ℤ d → begin ≡ last +ℤ b → end +ℤ b ≡ begin +ℤ s → end ≡ z +ℤ d
-  rest-and-again z end begin last b s d e f g =
-      eq-in (omega (arith, ap up e, ap down e, ap up f, ap down f, ap up g, ap down g, add-rel last s, add-rel z d, add-rel last b, add-rel end b, add-rel begin s))
+  -- the rest of the round, the back move, and the round up to here: a counter is `now` here, `last` at the last place of the round, `begun` at the first of
+  -- the next, and `then` here again; the back move adds b, it and the ways up to here s, and a round d
+  rest-and-again : (now last begun then b s d : ℤ) → last +ℤ s ≡ now +ℤ d → begun ≡ last +ℤ b → then +ℤ b ≡ begun +ℤ s → then ≡ now +ℤ d
+  rest-and-again now last begun then b s d e f g =
+      eq-in (omega (arith, ap up e, ap down e, ap up f, ap down f, ap up g, ap down g, add-rel last s, add-rel now d, add-rel last b, add-rel then b, add-rel begun s))
 
   module _ (laid : Laid (x .places)) (m : Moment) (again : goesAgain (markAt (x .places) (spot (x .places) m .first)) (spot (x .places) m .round) ≡ true) where
     -- the first place of its stretch, how many places it has, the step that it is at, and the round
@@ -95,7 +96,7 @@ module _ (x : Items) where
         let i = inside x laid m in
         let a : o + (L - 1 - o) ≡ L - 1 = omega arith in
         let b : suc end + o ≡ m + L = omega arith in
-        rest-and-again (countersAt x θ m j) (countersAt x θ (m + L) j) (countersAt x θ (suc end) j) (countersAt x θ end j) (backBy x j q) (onceAround x j q o) (drift x j q)
+        rest-and-again (countersAt x θ m j) (countersAt x θ end j) (countersAt x θ (suc end) j) (countersAt x θ (m + L) j) (backBy x j q) (onceAround x j q o) (drift x j q)
         (rw a at (ways-add θ j q o r m refl (L - 1 - o) (omega arith)))
         (rw add-zero at (step-adds θ j end at-end goes-back))
         (rw (b, zero-add) at (ways-add θ j q 0 (suc r) (suc end) (after ps refl at-end goes-back) o (omega arith)))
@@ -108,38 +109,38 @@ module _ (x : Items) (laid : Laid (x .places)) (m : Moment) (endless : isEndless
   s = spot (x .places) m
 
   -- the moment k rounds later
-  abbrev onward : ℕ → Moment
-  onward k = m + k * stretch (markAt (x .places) (s .first))
+  abbrev roundsOn : ℕ → Moment
+  roundsOn k = m + k * stretch (markAt (x .places) (s .first))
 
-  onward-zero : onward 0 ≡ m
-  onward-zero = omega arith
+  roundsOn-zero : roundsOn 0 ≡ m
+  roundsOn-zero = omega arith
 
-  onward-suc : (k : ℕ) → onward (suc k) ≡ onward k + stretch (markAt (x .places) (s .first))
-  onward-suc k = omega arith
+  roundsOn-suc : (k : ℕ) → roundsOn (suc k) ≡ roundsOn k + stretch (markAt (x .places) (s .first))
+  roundsOn-suc k = omega arith
 
-  goes-again : (k : ℕ) → spot (x .places) (onward k) ≡ spotAt (s .first) (s .step) (s .round + k) →
-      goesAgain (markAt (x .places) (spot (x .places) (onward k) .first)) (spot (x .places) (onward k) .round) ≡ true
+  goes-again : (k : ℕ) → spot (x .places) (roundsOn k) ≡ spotAt (s .first) (s .step) (s .round + k) →
+      goesAgain (markAt (x .places) (spot (x .places) (roundsOn k) .first)) (spot (x .places) (roundsOn k) .round) ≡ true
   goes-again k e = rw e (endless-goes (markAt (x .places) (s .first)) endless (s .round + k))
 
   -- the run is at the same place
   pub rounds-later : (k : ℕ) →
       let s = spot (x .places) m in
       spot (x .places) (m + k * stretch (markAt (x .places) (s .first))) ≡ spotAt (s .first) (s .step) (s .round + k)
-  rounds-later zero = ap (spot (x .places)) onward-zero ∙ ap (spotAt (s .first) (s .step)) (sym (add-zero (s .round)))
+  rounds-later zero = ap (spot (x .places)) roundsOn-zero ∙ ap (spotAt (s .first) (s .step)) (sym (add-zero (s .round)))
   rounds-later (suc k) =
       let e = rounds-later k in
-      ap (spot (x .places)) (onward-suc k) ∙ rw (e, ← add-suc) at (next-round x laid (onward k) (goes-again k e))
+      ap (spot (x .places)) (roundsOn-suc k) ∙ rw (e, ← add-suc) at (next-round x laid (roundsOn k) (goes-again k e))
 
   -- and each of its counters is more by k times the drift
-  pub counters-later : (θ : Valuation) (k j : ℕ) →
+  pub counters-rounds-later : (θ : Valuation) (k j : ℕ) →
       let q = spot (x .places) m .first in
       countersAt x θ (m + k * stretch (markAt (x .places) q)) j ≡ countersAt x θ m j +ℤ pos k *ℤ drift x j q
-  counters-later θ zero j = ap (λ i. countersAt x θ i j) onward-zero ∙ sym (line-zero (countersAt x θ m j) (drift x j (s .first)))
-  counters-later θ (suc k) j =
+  counters-rounds-later θ zero j = ap (λ i. countersAt x θ i j) roundsOn-zero ∙ sym (line-zero (countersAt x θ m j) (drift x j (s .first)))
+  counters-rounds-later θ (suc k) j =
       let e = rounds-later k in
-      ap (λ i. countersAt x θ i j) (onward-suc k)
-      ∙ rw e at (one-round-later x laid (onward k) (goes-again k e) θ j)
-      ∙ ap (λ z. z +ℤ drift x j (s .first)) (counters-later θ k j)
+      ap (λ i. countersAt x θ i j) (roundsOn-suc k)
+      ∙ rw e at (one-round-later x laid (roundsOn k) (goes-again k e) θ j)
+      ∙ ap (λ z. z +ℤ drift x j (s .first)) (counters-rounds-later θ k j)
       ∙ sym (line-suc (countersAt x θ m j) (drift x j (s .first)) k)
 
 -- ---- what a case keeps

@@ -16,10 +16,11 @@ use Rattle.items.specs.declared.LoopMark.the-variants as mark
 use Rattle.items.specs.declared.Ref.the-variants as ref
 use Rattle.items.specs.declared.Place.{Place}
 use Rattle.items.specs.Lists.{Items}
-use Rattle.rules.specs.Rules.{markAt, isEndless, Closed}
+use Rattle.rules.specs.Rules.{markAt, Closed}
 use Rattle.meaning.specs.Run.{Moment, Spot, Step, Way, here, stretch, goesAgain, next, spot, wayTaken, backOf, placeAt, moveNo}
 use Rattle.meaning.specs.Judged.{placeBefore, waysOf, waysInto, wayIn, wayBack}
 use Rattle.meaning_laws.specs.Facts.{Laid, Facts}
+use Rattle.meaning_laws.specs.Walk.{endless-is}
 
 -- ---- a step
 
@@ -45,11 +46,6 @@ module _ (P : Step → Type 0) (ps : List Place) (s : Spot) where
       (λ e.
       let l = ltb-false (s .step + 1) L e in
       cond-by P (goesAgain (markAt ps (s .first)) (s .round)) (g l) (h l))
-
-endless-is : (k : LoopMark) → isEndless k ≡ true → (l : ℕ) × (b : ℕ) × (k ≡ mark.Endless l b)
-endless-is mark.None e = absurd (false≢true e)
-endless-is (mark.Counted l n b) e = absurd (false≢true e)
-endless-is (mark.Endless l b) e = (l, b, refl)
 
 -- ---- where the run is
 
@@ -88,7 +84,7 @@ module _ (x : Items) (laid : Laid (x .places)) where
     whole = rw (loop .2) (rw (loop .2) at (c .whole))
 
     -- a stretch that begins before the endless loop ends before it
-    ends-before : (q : ℕ) → q < c .first → q + stretch (markAt ps q) ≤ c .first
+    pub ends-before : (q : ℕ) → q < c .first → q + stretch (markAt (x .places) q) ≤ c .first
     ends-before q h =
         laid .apart q (c .first) h (omega (arith, laid .long (c .first), whole)) (λ n. let z : _≡_ {A = ℕ} 0 1 = cc (loop .2) in omega arith)
 

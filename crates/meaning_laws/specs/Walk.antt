@@ -14,7 +14,7 @@ use Rattle.items.specs.declared.LoopMark.{LoopMark}
 use Rattle.items.specs.declared.LoopMark.the-variants as mark
 use Rattle.items.specs.declared.Place.{Place}
 use Rattle.items.specs.Lists.{Items}
-use Rattle.rules.specs.Rules.{markAt, lengthOf, isEndless, Closed}
+use Rattle.rules.specs.Rules.{markAt, isEndless, Closed}
 use Rattle.meaning.specs.Run.{Moment, Spot, Step, stretch, goesAgain, next, spot}
 use Rattle.meaning_laws.specs.Facts.{Laid}
 
@@ -94,16 +94,15 @@ module _ (ps : List Place) (q : ℕ) where
 
 -- ---- an endless loop
 
--- it has a length, and is gone through again and again
-pub endless-long : (k : LoopMark) → isEndless k ≡ true → (stretch k ≡ lengthOf k) × (k ≡ mark.None → ⊥)
-endless-long mark.None e = absurd (false≢true e)
-endless-long (mark.Counted l n b) e = absurd (false≢true e)
-endless-long (mark.Endless l b) e = (refl, λ q. let z : _≡_ {A = ℕ} 0 1 = cc in omega arith)
+-- its mark
+pub endless-is : (k : LoopMark) → isEndless k ≡ true → (l : ℕ) × (b : ℕ) × (k ≡ mark.Endless l b)
+endless-is mark.None e = absurd (false≢true e)
+endless-is (mark.Counted l n b) e = absurd (false≢true e)
+endless-is (mark.Endless l b) e = (l, b, refl)
 
+-- it is gone through again and again
 pub endless-goes : (k : LoopMark) → isEndless k ≡ true → (r : ℕ) → goesAgain k r ≡ true
-endless-goes mark.None e r = absurd (false≢true e)
-endless-goes (mark.Counted l n b) e r = absurd (false≢true e)
-endless-goes (mark.Endless l b) e r = refl
+endless-goes k e r = ap (λ j. goesAgain j r) (endless-is k e .2)
 
 -- ---- to the first place of a loop
 
@@ -143,5 +142,5 @@ module _ (ps : List Place) (laid : Laid ps) (s : ℕ) (h : s < length ps) (marke
 -- it comes to the endless loop
 pub reach-endless : (x : Items) → Laid (x .places) → (c : Closed x) → Reached (x .places) (c .first)
 reach-endless x laid c =
-    let (e, n) = endless-long (markAt (x .places) (c .first)) (c .endless) in
-    reach (x .places) laid (c .first) (omega (arith, laid .long (c .first), e, c .whole)) n
+    let e = endless-is (markAt (x .places) (c .first)) (c .endless) .2 in
+    reach (x .places) laid (c .first) (omega (arith, rw e at (laid .long (c .first)), rw e at (c .whole))) (λ n. let z : _≡_ {A = ℕ} 0 1 = cc e in omega arith)

@@ -171,7 +171,7 @@ fn trend(d: i64) -> Trend
     }
 }
 
-// Where a sum that is a the first time is to its bound b.
+// Where a sum is to its bound b, where a is the sum the first time.
 fn side(a: i64, b: i64) -> Side
     ensures { λ r. ⌜ r ≡ side a b ⌝ }
 {
@@ -210,7 +210,7 @@ fn overall(c: Course) -> Throughout
     }
 }
 
-// A sum that is a the first time and to which each round adds d, against its bound b: without end, by the table.
+// A sum against its bound b, without end, by the table: a is the sum the first time, d what each round adds.
 fn ever(a: i64, d: i64, b: i64) -> Throughout
     ensures { λ r. ⌜ r ≡ through a d b rounds.Ever ⌝ }
 {

@@ -84,7 +84,7 @@ agree false false = Never
 abbrev pub trend : ℤ → Trend
 trend d = cond (ltZ (pos 0) d) Rises (cond (ltZ d (pos 0)) Falls Stays)
 
--- where a sum that is a the first time is to its bound b
+-- where a sum is to its bound b, where a is the sum the first time
 abbrev pub side : ℤ → ℤ → Side
 side a b = cond (leZ b a) AtOrAbove Below
 

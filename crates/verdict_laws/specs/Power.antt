@@ -2,13 +2,13 @@
 use mathlib.Core.Path.{_≡_, refl, sym, _∙_, ap}
 use mathlib.Core.Logic.{_↔_, _⊎_, inl, inr, ⊎-elim, Iff·rfl}
 use mathlib.Core.Bool.{Bool, true, false, cond, _||_, or-assoc, or-comm, or-false, or-true, true≢false, false≢true}
-use Prim.Native.Nat.{ℕ, zero, suc, _+_, _*_, _-_, _≤_, _<_}
+use Prim.Native.Nat.{ℕ, zero, suc, _+_, _*_, _-_, _≤_}
 use native.Mathlib.Omega.{arith}
 use native.Mathlib.Nat.{mul-zero, mul-suc}
-use lib.Dec.{T, leb·zero, eqb·suc-zero}
+use lib.Dec.{leb·zero, eqb·suc-zero}
 use lib.IntN.{ℤ, pos, negsuc, _+ℤ_, negℤ, _*ℤ_, +ℤ-assoc, +ℤ-idl, +ℤ-idr, +ℤ-comm, zero-*ℤ, sucℤ-*ℤ}
 use lib.Signed.{_≤ℤ_, leZ}
-use Rattle.laws.specs.Order.{up, down, le-true}
+use Rattle.laws.specs.Order.{up, down, le-true, le-false, true-le}
 use Rattle.laws.specs.Arithmetic.{le-out, le-in, eq-in, le-or, add-rel, neg-rel}
 use Rattle.laws.specs.Tests.{tells-or}
 use Rattle.meaning_laws.specs.Between.{OneWay}
@@ -17,16 +17,6 @@ use Rattle.verdict.specs.Best as best
 use Rattle.verdict.specs.Best.{Best, isReached, plus, greater, onward, step, chain, wholeSum, positive, power, limit}
 
 -- ---- tests of integers, for `omega`
-
-is-true : (t : Bool) → T t → t ≡ true
-is-true true h = refl
-is-true false h = absurd h
-
-true-le : (a b : ℤ) → up a + down b ≤ up b + down a → leZ a b ≡ true
-true-le a b h = is-true (leZ a b) (le-in {a = a} {b = b} h .le)
-
-le-false : (a b : ℤ) → leZ a b ≡ false → up b + down a < up a + down b
-le-false a b e = ⊎-elim (λ h. absurd (true≢false (sym (is-true (leZ a b) (h .le)) ∙ e))) (λ h. h) (le-or a b)
 
 ruleset tests = (arith, le-out, le-true, true-le, le-false)
 
