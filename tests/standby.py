@@ -60,7 +60,7 @@ def drawing(rows):
     bound = next(int(row.split()[1]) for row in picture if row.startswith("bound"))
     numbers = [found for row in picture for found in re.finditer(r"\(?-?\d+\)?", " " * 8 + row[8:])]
     columns = [found.start() for found in re.finditer(r"\d", rounds)]
-    above = [next(found[0] for found in numbers if found.start() <= column < found.end()) for column in columns]
+    above = [next((found[0] for found in numbers if found.start() <= column < found.end()), None) for column in columns]
     return bound, above, [letters[column] for column in columns]
 
 
@@ -72,6 +72,9 @@ def drawings(tally, text, said):
     for case, rows in zip(CASES, halves):
         words = f"{case[0]}, {'at or above' if case[1] == 'above' else 'below'}: {said.get(case)}"
         bound, above, letters = drawing(rows)
+        tally.equal(f"{words}: numbers above its rounds", ROUNDS, sum(number is not None for number in above))
+        if None in above:
+            continue
         sums = [int(number.strip("()")) for number in above]
         truth = ["-" if "(" in number else "FT"[total >= bound] for number, total in zip(above, sums)]
         tally.equal("a drawing's title", words, rows[0])
