@@ -43,6 +43,7 @@ pub record EachRound (ps : List Place) (n : ℕ) (At : Moment → Type 0) : Type
   pub round : spot ps first .round ≡ n
   pub times : (m : Moment) → At m ↔ ((k : ℕ) × (m ≡ first + k * stretch (markAt ps (spot ps first .first))))
 
+-- in a plan whose endless loop has closed; `ComesBy ps w m` (EndlessTimes.antt) says that the run comes to moment m by way w
 module _ (x : Items) (laid : Laid (x .places)) (c : Closed x) where
   -- the places of the plan, and how many the endless loop has
   abbrev ps : List Place
@@ -98,6 +99,7 @@ module _ (x : Items) (laid : Laid (x .places)) (c : Closed x) where
 
 -- ---- the six cases
 
+-- of any guard, from any start, tested at such moments
 module _ (x : Items) (laid : Laid (x .places)) (θ : Valuation) (g : Guard) {n : ℕ} {At : Moment → Type 0} (t : EachRound (x .places) n At) where
   -- its sum the first time that it is tested
   abbrev pub sumAtFirst : ℤ
