@@ -34,6 +34,9 @@ lt-in {a = pos m} {b = negsuc n} h = absurd (omega arith)
 lt-in {a = negsuc m} {b = pos n} h = record { lt = tt }
 lt-in {a = negsuc m} {b = negsuc n} h = record { lt = lt→ltb n m (omega arith) }
 
+pub lt-le : {a b : ℤ} → a <ℤ b → a ≤ℤ b
+lt-le h = le-in (omega (arith, lt-out h))
+
 pub eq-in : {a b : ℤ} → up a + down b ≡ up b + down a → a ≡ b
 eq-in {a = pos m} {b = pos n} h = let e : m ≡ n = omega arith in ap pos e
 eq-in {a = pos m} {b = negsuc n} h = absurd (omega arith)

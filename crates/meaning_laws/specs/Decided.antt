@@ -2,8 +2,7 @@
 use mathlib.Core.Path.{_≡_, refl, sym, _∙_, ap}
 use mathlib.Core.Logic.{_↔_, _⊎_, inl, inr, ⊎-elim, Iff·symm}
 use mathlib.Core.Bool.{Bool, true, false, false≢true}
-use Prim.Native.Nat.{ℕ, suc, _+_, _-_, _*_, _/_, _%_, _≤_, _<_}
-use native.Mathlib.Nat.{div-add-mod', mod-lt}
+use Prim.Native.Nat.{ℕ, suc, _+_, _-_, _≤_, _<_}
 use native.Mathlib.Omega.{arith}
 use lib.ListN.{length, getD}
 use Rattle.laws.specs.Arithmetic.{le-out, le-or}
@@ -18,7 +17,7 @@ use Rattle.meaning.specs.Truth.{Says, bit}
 use Rattle.meaning.specs.Judged.{marked, TrueAt, traceOf}
 use Rattle.verdict.specs.Labels.{labelOf}
 use Rattle.meaning_laws.specs.Facts.{Facts, Laid, Refers}
-use Rattle.meaning_laws.specs.Walk.{Reached, in-stretch, endless-goes, reach-endless}
+use Rattle.meaning_laws.specs.EndlessTimes.{to, moment, there, ever-since}
 use Rattle.meaning_laws.specs.Counting.{Decided, gets-decided}
 use Rattle.meaning_laws.specs.Below.{RightBelow, SaysBelow, says-below, until-labels}
 
@@ -34,26 +33,14 @@ record Recurs (x : Items) : Type 0 where
 comes-again : (x : Items) → Laid (x .places) → Closed x → Recurs x
 comes-again x laid c =
     record {
-      moment = to .moment;
-      round = L;
-      long = laid .long q;
-      same = λ j h. let d = j - to .moment in by-round j (d / L) (d % L) h (div-add-mod' d L) (mod-lt d (laid .long q));
+      moment = to x laid c .moment;
+      round = stretch (markAt (x .places) (c .first));
+      long = laid .long (c .first);
+      same = λ j h.
+          let (r, o, l, w) = ever-since x laid c j h in
+          let v : j + stretch (markAt (x .places) (c .first)) ≡ moment x laid c (suc r) o = omega arith in
+          ap (λ i. here (spot (x .places) i)) v ∙ ap here (there x laid c (suc r) o l) ∙ sym (ap here (ap (spot (x .places)) w ∙ there x laid c r o l));
     }
-  where
-    q : ℕ
-    q = c .first
-
-    L : ℕ
-    L = stretch (markAt (x .places) q)
-
-    to : Reached (x .places) q
-    to = reach-endless x laid c
-
-    place : (j r o : ℕ) → j ≡ to .moment + (r * L + o) → o < L → here (spot (x .places) j) ≡ q + o
-    place j r o e h = ap (λ i. here (spot (x .places) i)) e ∙ ap here (in-stretch (x .places) q (to .moment) (laid .long q) (to .there) r o (λ i w. endless-goes (markAt (x .places) q) (c .endless) i) h)
-
-    by-round : (j r o : ℕ) → to .moment ≤ j → r * L + o ≡ j - to .moment → o < L → here (spot (x .places) (j + L)) ≡ here (spot (x .places) j)
-    by-round j r o h e w = place (j + L) (suc r) o (omega arith) w ∙ sym (place j r o (omega arith) w)
 
 -- ---- sentences
 

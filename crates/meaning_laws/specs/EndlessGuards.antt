@@ -16,7 +16,7 @@ use native.Mathlib.Omega.{arith}
 use lib.IntN.{ℤ, pos, _+ℤ_, _*ℤ_}
 use lib.Signed.{_≤ℤ_, _<ℤ_, ≤ℤ-refl}
 use lib.ListN.{length, getD}
-use Rattle.laws.specs.Arithmetic.{le-in, lt-out}
+use Rattle.laws.specs.Arithmetic.{lt-le}
 use Rattle.laws.specs.Sizes.{size}
 use Rattle.laws.specs.Progression.{line-suc, Reaches, gap, ceilDiv, all-reach, none-reach, reach-from, reach-until}
 use Rattle.kinds.specs.declared.Kind.the-variants as kind
@@ -152,7 +152,7 @@ module _ (x : Items) (laid : Laid (x .places)) (θ : Valuation) (g : Guard) {n :
 
   -- rises, and is at or above the bound the first time: true every time (003: met, met)
   pub rises-above : pos 0 <ℤ roundAdds → g .bound ≤ℤ sumAtFirst → (m : Moment) → At m → Met m
-  rises-above u h = each-time Met (λ k. rw (met-then k) (all-reach sumAtFirst roundAdds (g .bound) (le-in (omega (arith, lt-out u))) h k))
+  rises-above u h = each-time Met (λ k. rw (met-then k) (all-reach sumAtFirst roundAdds (g .bound) (lt-le u) h k))
 
   -- rises, and is below the first time: false before round risenBy, and true from it on (003: not met, met)
   pub rises-below : pos 0 <ℤ roundAdds → sumAtFirst <ℤ g .bound → (m : Moment) → At m → Met m ↔ (risenBy ≤ spot (x .places) m .round)
@@ -177,7 +177,7 @@ module _ (x : Items) (laid : Laid (x .places)) (θ : Valuation) (g : Guard) {n :
   -- falls, and is below the first time: false every time (003: not met, not met)
   pub falls-below : roundAdds <ℤ pos 0 → sumAtFirst <ℤ g .bound → (m : Moment) → At m → Met m → ⊥
   falls-below u h =
-      each-time (λ m. Met m → ⊥) (λ k w. none-reach sumAtFirst roundAdds (g .bound) (le-in (omega (arith, lt-out u))) h k (rw (met-then k) at w))
+      each-time (λ m. Met m → ⊥) (λ k w. none-reach sumAtFirst roundAdds (g .bound) (lt-le u) h k (rw (met-then k) at w))
 
 -- ---- what it decides
 

@@ -47,16 +47,19 @@ module _ (x : Items) (laid : Laid (x .places)) (c : Closed x) where
   not-before : (m : Moment) → m < to .moment → here (spot ps m) < q
   not-before m l = omega (arith, ends-before x laid c (spot ps m .first) (to .before m l), inside x laid m)
 
+  -- it is there from then on
+  pub ever-since : (m : Moment) → to .moment ≤ m → (r : ℕ) × (o : ℕ) × (o < stretch (markAt (x .places) (c .first))) × (m ≡ moment r o)
+  ever-since m l = let i : ℕ = m - to .moment in (i / L, i % L, mod-lt i (laid .long q), omega (arith, div-add-mod' i L))
+
   -- a moment at its place o is that of one of its rounds
   pub in-some-round : (m : Moment) (o : ℕ) → here (spot (x .places) m) ≡ c .first + o → (r : ℕ) × (m ≡ moment r o)
   in-some-round m o e =
       elim (decLt m (to .moment)) [
         | yes l ↦ absurd (omega (arith, not-before m l))
         | no l ↦
-            let i : ℕ = m - to .moment in
-            let w : m ≡ moment (i / L) (i % L) = omega (arith, div-add-mod' i L) in
-            let d : q + i % L ≡ q + o = sym (ap here (ap (spot ps) w ∙ there (i / L) (i % L) (mod-lt i (laid .long q)))) ∙ e in
-            (i / L, omega arith)
+            let (r, p, h, w) = ever-since m (omega arith) in
+            let d : q + p ≡ q + o = sym (ap here (ap (spot ps) w ∙ there r p h)) ∙ e in
+            (r, omega arith)
       ]
 
   -- the way of a step

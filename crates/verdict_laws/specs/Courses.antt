@@ -8,7 +8,7 @@ use lib.IntN.{ℤ, pos, negsuc}
 use lib.Signed.{leZ, _≤ℤ_, _<ℤ_, ≤ℤ-refl, clashℤ}
 use borrow.Author.Tests.{lt-ltb, le-leb, lt-leb}
 use Rattle.laws.specs.Tests.{cond-by}
-use Rattle.laws.specs.Arithmetic.{le-in, lt-in, lt-out, tells-leZ, not-leZ}
+use Rattle.laws.specs.Arithmetic.{lt-in, lt-le, tells-leZ, not-leZ}
 use Rattle.laws.specs.Sizes.{size}
 use Rattle.laws.specs.Progression.{Reaches, gap, ceilDiv, line-zero, all-reach, none-reach, reach-from, reach-until}
 use Rattle.counters.specs.Sum.{Valuation}
@@ -59,12 +59,12 @@ side-is a b = cond-by (λ s. Begins s a b) (leZ b a) (tells-leZ b a .0) (not-leZ
 
 module _ (a d b : ℤ) where
   by-case : (t : Trend) (s : Side) → Trends t d → Begins s a b → Goes (course t s) (Reaches a d b)
-  by-case Rises AtOrAbove u h = all-reach a d b (le-in (omega (arith, lt-out u))) h
+  by-case Rises AtOrAbove u h = all-reach a d b (lt-le u) h
   by-case Rises Below u h = (ceilDiv (gap a b) (size d), reach-from a d b u, λ w. clashℤ h (rw line-zero at w))
   by-case Stays AtOrAbove e h = all-reach a d b (rw e (≤ℤ-refl (pos 0))) h
   by-case Stays Below e h = none-reach a d b (rw e (≤ℤ-refl (pos 0))) h
   by-case Falls AtOrAbove u h = (ceilDiv (gap b a + 1) (size d), reach-until a d b u h, rw line-zero h)
-  by-case Falls Below u h = none-reach a d b (le-in (omega (arith, lt-out u))) h
+  by-case Falls Below u h = none-reach a d b (lt-le u) h
 
   -- it is right of a progression
   pub goes-so : Goes (course (trend d) (side a b)) (Reaches a d b)

@@ -1,8 +1,8 @@
 -- The answer is the table's. Assumes nothing.
-use mathlib.Core.Path.{_∙_}
+use mathlib.Core.Path.{_∙_, ap, ap₂}
 use mir.Facts.{toZ-ofZ}
 use borrow.Author.Needs.{needs}
-use Rattle.verdict.specs.Rounds.{through}
+use Rattle.verdict.specs.Rounds.{trend, side, course, overall, through}
 use Rattle.rounds.proofs.ever.Statement.{statement}
 use Rattle.rounds.proofs.ever.Tie as tie
 
@@ -22,8 +22,9 @@ returns : tie.Need-returns
 unfolding through
 returns c =
     let known = c .before .before .before .before .fits in
-    c .overall .ensures
-    ∙ rw (c .before .course .ensures, c .before .before .side .ensures, c .before .before .before .trend .ensures, toZ-ofZ (known .a), toZ-ofZ (known .b), toZ-ofZ (known .d))
+    let goes = c .before .before .before .trend .ensures ∙ ap trend (toZ-ofZ (known .d)) in
+    let begins = c .before .before .side .ensures ∙ ap₂ side (toZ-ofZ (known .a)) (toZ-ofZ (known .b)) in
+    c .overall .ensures ∙ ap overall (c .before .course .ensures ∙ ap₂ course goes begins)
 
 pub ever-spec : {M : Type 1} → statement M
 ever-spec =
