@@ -113,7 +113,7 @@ module _ (x : Items) (laid : Laid (x .places)) (c : Closed x) where
       taken (zero, l, d) = absurd (omega arith)
       taken (suc r, l, d) = ap (wayTaken ps) (before-round m r d) ∙ by-back r
 
-  -- by the move into the first place: once
+  -- by the move into the first place: if at all, at the moment at which it comes to the loop
   pub comes-once : (m : Moment) → ComesBy (x .places) (record { place = c .first; back = false }) m → m ≡ to .moment
   comes-once zero e = absurd e
   comes-once (suc m) e = by-round (in-some-round (suc m) 0 (ap (λ (w : Way). w .place) e ∙ sym (add-zero q)))
