@@ -1,4 +1,5 @@
--- Document 01's numbers for every answer of the checker, to a record and of a judgement, and the order in which refusals are tested. No other place has them.
+-- The documents' numbers for every answer of the checker, to a record, of a judgement and of writing a case back, and the order in which refusals are tested. No other
+-- place has them.
 use mathlib.Core.List.{List, [], _∷_}
 use mathlib.Core.Bool.{Bool, true, false}
 use Prim.Native.Nat.{ℕ, _<_}
@@ -10,6 +11,8 @@ use Rattle.answers.specs.declared.Answer.the-variants.{Taken, NotARecord
 use Rattle.answers.specs.declared.Judgement.the-variants.{Accepted, GuardFails, RootUnmarked, Unconnected, Unfinished, WrongMark, WrongStart}
 use Rattle.answers.specs.declared.Judgement.{Judgement}
 use Rattle.answers.specs.declared.Told.{Told}
+use Rattle.answers.specs.declared.Written.the-variants.{All, TooShort}
+use Rattle.answers.specs.declared.Written.{Written}
 
 -- the result of each answer to a record, and its third number: the place in the record of the byte that it names, or its field, counted from 1; 0 for none
 abbrev pub told : Answer → ℕ × ℕ
@@ -79,3 +82,8 @@ numbersOf (Unconnected p t) = numbers 32 (p .0) t
 numbersOf (GuardFails p g) = numbers 33 (p .0) g
 numbersOf (WrongMark p i) = numbers 34 (p .0) i
 numbersOf (RootUnmarked r) = numbers 35 0 r
+
+-- the numbers of what is written: 0 with the number of bytes, 41 with 0
+abbrev pub writtenNumbers : Written → Told
+writtenNumbers (All n) = numbers 0 n 0
+writtenNumbers TooShort = numbers 41 0 0

@@ -1,6 +1,6 @@
 // Every answer of the checker: to a record, and of a judgement; with the three numbers that document 01 has for it.
 ghost use mathlib.Core.Path.{_≡_};
-ghost use Rattle.answers.specs.Answers.{isTaken, numberOf, thirdOf, numbersOf};
+ghost use Rattle.answers.specs.Answers.{isTaken, numberOf, thirdOf, numbersOf, writtenNumbers};
 use items::PlaceNo;
 
 // What a record is answered; with a field, counted from 1, where one is named, and for a field that is misspelled the place of its bad byte in the record.
@@ -35,6 +35,14 @@ pub enum Judgement {
     WrongMark(PlaceNo, u8),
     // 35: the root, which isn't marked at place 0
     RootUnmarked(u8),
+}
+
+// What writing a case back tells.
+pub enum Written {
+    // 0: all of it, in so many bytes
+    All(usize),
+    // 41: nothing, the buffer is shorter than the case
+    TooShort,
 }
 
 // The three numbers of an answer: the result, then where, then what.
@@ -146,6 +154,26 @@ impl Judgement {
                 result: 35,
                 second: 0,
                 third: r as usize,
+            },
+        }
+    }
+}
+
+impl Written {
+    // The three numbers of what is written.
+    pub fn told(self) -> Told
+        ensures { λ r. ⌜ r ≡ writtenNumbers self ⌝ }
+    {
+        match self {
+            Written::All(n) => Told {
+                result: 0,
+                second: n,
+                third: 0,
+            },
+            Written::TooShort => Told {
+                result: 41,
+                second: 0,
+                third: 0,
             },
         }
     }

@@ -4,7 +4,7 @@ use mathlib.Core.Path.{_≡_, refl, _∙_, sym, ap, subst}
 use mathlib.Core.Logic.{_⊎_, inl, inr, ⊎-elim}
 use mathlib.Core.List.{List, [], _∷_, _++_, append-nil}
 use mathlib.Core.Bool.{Bool, true, false, true≢false}
-use Prim.Native.Nat.{ℕ, zero, suc, _+_, _<_}
+use Prim.Native.Nat.{ℕ, zero, suc, _+_}
 use native.Mathlib.Omega.{arith}
 use lib.ListN.{getD, take}
 use lib.Seq.{append-snoc}
@@ -24,7 +24,7 @@ use Rattle.rules_laws.specs.Stages.{refuses}
 use Rattle.rules_laws.specs.Kept.{sound-empty, sound-kept}
 use Rattle.rules_laws.specs.First.{first-one}
 use Rattle.rules_laws.specs.Theorems.{answers, refused}
-use Rattle.meaning_laws.specs.AllTaken.{spelled-more, all-taken}
+use Rattle.rules_laws.specs.AllTaken.{spelled-more, all-taken}
 use Rattle.casefile.specs.Answer.{answerOf}
 
 module _ (ps rs : List (List ℕ)) (b : List ℕ) where

@@ -25,11 +25,11 @@ use Rattle.rules.specs.Files.{rowsOf, spelled, AllTaken}
 use Rattle.collector.specs.Cases.{emptyCase, itemsOf}
 use Rattle.collector.specs.Taking.{collectedOf}
 use Rattle.rules_laws.specs.Stages.{renumbered, refuses}
-use Rattle.rules_laws.specs.Theorems.{sound, spelled-case}
+use Rattle.rules_laws.specs.Theorems.{sound, spelled-case, all-taken}
 use Rattle.meaning.specs.Judged.{Finished, IsAccepted, Judged, startOf}
 use Rattle.meaning.specs.Paper.{Means}
 use Rattle.meaning.specs.Files.{FileAccepted}
-use Rattle.meaning_laws.specs.Theorems.{one-answer, zero-accepts, means, all-taken}
+use Rattle.meaning_laws.specs.Theorems.{one-answer, zero-accepts, means}
 use Rattle.verdict.specs.Verdict.{verdict}
 use Rattle.verdict_laws.specs.Theorems.{judged}
 use Rattle.casefile.specs.Answer.{answerOf}

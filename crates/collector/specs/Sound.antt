@@ -4,12 +4,15 @@ use mathlib.Core.Logic.{_↔_}
 use mathlib.Core.List.{List}
 use mathlib.Core.Bool.{true, cond}
 use Prim.Native.Nat.{ℕ, _≤_, _<_}
+use lib.Dec.{ltb}
 use lib.ListN.{length, getD}
 use Rattle.record.specs.declared.Field.{Field}
+use Rattle.record.specs.Spell.{HasSpelling}
+use Rattle.record.specs.Layout.{fields, at}
 use Rattle.kinds.specs.declared.Kind.{Kind}
 use Rattle.kinds.specs.declared.Kind.the-variants as kind
 use Rattle.kinds.specs.declared.Counts.{Counts}
-use Rattle.kinds.specs.Kinds.{countOf, countsBy, same}
+use Rattle.kinds.specs.Kinds.{countOf, countsBy, rankOf, same}
 use Rattle.table.specs.declared.Shape.{Shape}
 use Rattle.table.specs.Table.{shapeOf}
 use Rattle.items.specs.declared.Ref.the-variants as ref
@@ -17,7 +20,7 @@ use Rattle.items.specs.declared.LoopMark.the-variants as mark
 use Rattle.items.specs.declared.Place.{Place}
 use Rattle.items.specs.Items.{itemOf, rowOf}
 use Rattle.items.specs.Lists.{listOf, roomOf, noItem}
-use Rattle.rules.specs.Rules.{IsBad, IsMissing, IsExtra, IsOutside, IsNotThere, markAt, isEndless, endAt}
+use Rattle.rules.specs.Rules.{IsMissing, IsExtra, IsOutside, IsNotThere, markAt, isEndless, endAt}
 use Rattle.collector.specs.declared.Case.{Case}
 use Rattle.collector.specs.Cases.{itemsOf, caseOf}
 
@@ -25,9 +28,11 @@ use Rattle.collector.specs.Cases.{itemsOf, caseOf}
 abbrev pub shape : Kind → List Field → Shape
 shape k r = shapeOf k (record { fields = r })
 
--- a row of fields of kind k meets its rules
+-- a row of fields of kind k meets its rules: all its fields are there, and each can be spelled; what is needed is filled, what must be blank is, and every
+-- number is in its range
 pub record Fit (k : Kind) (r : List Field) : Type 0 where
-  pub spelled : (f : ℕ) → IsBad r f → ⊥
+  pub long : length r ≡ fields
+  pub spelled : (f : ℕ) → HasSpelling (at r f)
   pub full : (f : ℕ) → IsMissing k r f → ⊥
   pub bare : (f : ℕ) → IsExtra k r f → ⊥
   pub ranged : (f : ℕ) → IsOutside k r f → ⊥
@@ -36,9 +41,9 @@ pub record Fit (k : Kind) (r : List Field) : Type 0 where
 abbrev pub There : Counts → Kind → List Field → Type 0
 There n k r = (f : ℕ) → IsNotThere n k r f → ⊥
 
--- what item i of a kind may refer to: what is held, and of its own kind only what comes before it
+-- what item i of a kind may refer to, the items that come before it: those of its own kind, and all of the kinds before its own
 abbrev pub reach : Counts → Kind → ℕ → Counts
-reach n k i = countsBy (λ j. cond (same k j) i (countOf n j))
+reach n k i = countsBy (λ j. cond (same k j) i (cond (ltb (rankOf j) (rankOf k)) (countOf n j) 0))
 
 -- loops don't overlap and lie within the room for places; the endless one comes once and last
 pub record LoopsApart (ps : List Place) : Type 0 where

@@ -1,17 +1,18 @@
 -- Laws of the kinds: each has a letter of its own and stands in the order once, so that what is tested of the listed ones is true of every kind.
 -- Only `each-kind` goes through the kinds by name. Assumes nothing.
 use mathlib.Core.Path.{_≡_, refl, _∙_, sym, ap, subst}
-use mathlib.Core.List.{List, [], _∷_, List·Memᴰ·head, List·Memᴰ·tail}
+use mathlib.Core.List.{List, [], _∷_, _++_, List·Memᴰ·head, List·Memᴰ·tail}
 use mathlib.Core.Bool.{Bool, true, false, not, cond}
 use Prim.Native.Nat.{ℕ, zero, suc, _+_, _≤_, _<_}
 use native.Mathlib.Omega.{arith}
 use native.Mathlib.Decide.{decLt}
 use lib.Dec.{eqb, ltb}
-use lib.ListN.{length}
+use lib.ListN.{length, take, drop}
+use lib.Seq.{split-at}
 use borrow.Author.Tests.{eqb-true, eqb-false, eq-eqb, ne-eqb, ltb-true, lt-ltb, ltb-false, not-false}
-use Rattle.laws.specs.All.{sumOver}
+use Rattle.laws.specs.All.{All, sumOver}
 use Rattle.laws.specs.Lowest.{lowest, lowest-none}
-use Rattle.laws.specs.Members.{Has, allOf, holds-all, sum-more}
+use Rattle.laws.specs.Members.{Has, all-map, allOf, all-of, holds-all, sum-more}
 use Rattle.laws.specs.Tests.{Tells, cond-by}
 use Rattle.kinds.specs.declared.Kind.{Kind}
 use Rattle.kinds.specs.declared.Kind.the-variants.{State, Weights, Guard, Move, Sentence, Place}
@@ -78,11 +79,28 @@ pub rank-below : (k : Kind) → rankOf k < length allKinds
 unfolding allOf
 rank-below k = ltb-true (rankOf k) (length allKinds) (every (λ j. ltb (rankOf j) (length allKinds)) refl k)
 
-rank-at : (r : ℕ) → r < length allKinds → rankOf (kindAt r) ≡ r
+pub rank-at : (r : ℕ) → r < length allKinds → rankOf (kindAt r) ≡ r
 unfolding lowest
 rank-at r h =
     eqb-true (rankOf (kindAt r)) r
     (not-false _ (lowest-none (λ i. not (eqb (rankOf (kindAt i)) i)) (length allKinds) 0 refl r (omega arith) h))
+
+-- a kind among all: those before it, and those after it
+pub kinds-split : (k : Kind) → allKinds ≡ take (rankOf k) allKinds ++ (k ∷ drop (suc (rankOf k)) allKinds)
+kinds-split k =
+    split-at allKinds (rankOf k) State (rank-below k) ∙ ap (λ j. take (rankOf k) allKinds ++ (j ∷ drop (suc (rankOf k)) allKinds)) (kind-at k)
+
+pub kinds-before : (k : Kind) → All (λ j. rankOf j < rankOf k) (take (rankOf k) allKinds)
+unfolding allOf
+kinds-before k =
+    let earlier : Kind → Kind → Bool = λ i j. ltb (rankOf j) (rankOf i) in
+    all-map (λ j. ltb-true (rankOf j) (rankOf k)) (all-of (earlier k) _ (every (λ i. allOf (earlier i) (take (rankOf i) allKinds)) refl k))
+
+pub kinds-after : (k : Kind) → All (λ j. rankOf k < rankOf j) (drop (suc (rankOf k)) allKinds)
+unfolding allOf
+kinds-after k =
+    let after : Kind → Kind → Bool = λ i j. ltb (rankOf i) (rankOf j) in
+    all-map (λ j. ltb-true (rankOf k) (rankOf j)) (all-of (after k) _ (every (λ i. allOf (after i) (drop (suc (rankOf i)) allKinds)) refl k))
 
 -- kinds are the same where their ranks are
 pub same-rank : (j k : Kind) → eqb (rankOf j) (rankOf k) ≡ same j k
@@ -91,6 +109,15 @@ same-rank j k = go (same j k) refl
     go : (t : Bool) → same j k ≡ t → eqb (rankOf j) (rankOf k) ≡ t
     go true e = eq-eqb (rankOf j) (rankOf k) (ap rankOf (same-is j k e))
     go false e = ne-eqb (rankOf j) (rankOf k) (λ q. eqb-false (letterOf j) (letterOf k) e (ap letterOf (sym (kind-at j) ∙ ap kindAt q ∙ kind-at k)))
+
+-- a kind that is neither this one nor before it comes after it
+pub later : (k j : Kind) → same k j ≡ false → ltb (rankOf j) (rankOf k) ≡ false → rankOf k < rankOf j
+later k j o b =
+    let n : rankOf k ≡ rankOf j → ⊥ = eqb-false (rankOf k) (rankOf j) (same-rank k j ∙ o) in
+    elim (decLt (rankOf k) (rankOf j)) [
+      | yes h ↦ h
+      | no h ↦ absurd (n (omega (arith, ltb-false (rankOf j) (rankOf k) b)))
+    ]
 
 -- ---- counts
 

@@ -3,8 +3,8 @@ ghost use mathlib.Core.Path.{_≡_};
 ghost use mathlib.Core.Bool.{cond};
 ghost use Prim.Native.Nat.{_<_, _^_};
 ghost use lib.Dec.{ltb};
-ghost use Rattle.kinds.specs.Kinds.{kindOf, rankOf, same, countOf, countsBy, countsTotal};
-ghost use Rattle.kinds.specs.Last.{lastRank};
+ghost use Rattle.kinds.specs.Kinds.{letterOf, kindOf, rankOf, same, countOf, countsBy, countsTotal};
+ghost use Rattle.kinds.specs.Last.{kindAt, lastRank};
 ghost use Rattle.kinds.specs.Contents.{flagOf, isNumber, natural};
 use record::Content;
 
@@ -61,6 +61,37 @@ pub fn kind_of(letter: u8) -> Letter
 }
 
 impl Kind {
+    // The number of kinds.
+    pub const COUNT: usize = 6;
+
+    // The kind of a rank; the first where there is no such rank.
+    pub fn at(rank: usize) -> Kind
+        ensures { λ r. ⌜ r ≡ kindAt rank ⌝ }
+    {
+        match rank {
+            1 => Kind::Weights,
+            2 => Kind::Guard,
+            3 => Kind::Move,
+            4 => Kind::Sentence,
+            5 => Kind::Place,
+            _ => Kind::State,
+        }
+    }
+
+    // The letter of this kind.
+    pub fn letter(self) -> u8
+        ensures { λ r. ⌜ r ≡ letterOf self ⌝ }
+    {
+        match self {
+            Kind::State => b'S',
+            Kind::Weights => b'W',
+            Kind::Guard => b'G',
+            Kind::Move => b'T',
+            Kind::Sentence => b'F',
+            Kind::Place => b'P',
+        }
+    }
+
     // The place of this kind in the order in which kinds come.
     pub fn rank(self) -> usize
         ensures { λ r. ⌜ r ≡ rankOf self ⌝ }

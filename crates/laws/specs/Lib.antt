@@ -8,6 +8,7 @@ pub mod Cases
 pub mod Lists
 pub mod All
 pub mod Members
+pub mod Gathered
 pub mod Tab
 pub mod Lowest
 pub mod Down

@@ -6,7 +6,7 @@ use mathlib.Core.List.{List, [], _∷_, map, List·Memᴰ, List·Memᴰ·head, L
 use Prim.Native.Nat.{ℕ, zero, suc, _+_, _≤_, _<_}
 use native.Mathlib.Nat.{eq-or-lt-of-le}
 use native.Mathlib.Omega.{arith}
-use lib.ListN.{getD}
+use lib.ListN.{length, getD}
 use Rattle.laws.specs.All.{All, none, also, First, this, later, from, gather, sumOver}
 
 -- ---- the first that is bad, where none is both good and bad
@@ -38,6 +38,15 @@ module _ {A : Type 0} {P : A → Type 0} where
   pub has-all : (l : List A) → ((a : A) → Has l a → P a) → All P l
   has-all [] f = none
   has-all (a ∷ l) f = also (f a (List·Memᴰ·head refl)) (has-all l (λ b m. f b (List·Memᴰ·tail m)))
+
+pub all-by : {A : Type 0} {P : A → Type 0} (d : A) (l : List A) → ((j : ℕ) → j < length l → P (getD l j d)) → All P l
+all-by d [] f = none
+all-by d (a ∷ l) f = also (f 0 (omega arith)) (all-by d l (λ j h. f (suc j) (omega arith)))
+
+pub all-at : {A : Type 0} (P : A → Type 0) (l : List A) (d : A) → All P l → P d → (i : ℕ) → P (getD l i d)
+all-at P [] d none p i = p
+all-at P (x ∷ l) d (also h t) p zero = h
+all-at P (x ∷ l) d (also h t) p (suc i) = all-at P l d t p i
 
 pub all-map : {A : Type 0} {P Q : A → Type 0} {l : List A} → ((a : A) → P a → Q a) → All P l → All Q l
 all-map {l = l} f h = has-all l (λ a m. f a (all-has h m))
@@ -112,6 +121,9 @@ pub holds-all : {A : Type 0} (t : A → Bool) {l : List A} {a : A} → allOf t l
 unfolding allOf
 holds-all t e (List·Memᴰ·head {x = b} {xs = l} h) = ap t h ∙ and-eq-true-iff (t b) (allOf t l) .0 e .0
 holds-all t e (List·Memᴰ·tail {x = b} {xs = l} m) = holds-all t (and-eq-true-iff (t b) (allOf t l) .0 e .1) m
+
+pub all-of : {A : Type 0} (t : A → Bool) (l : List A) → allOf t l ≡ true → All (λ a. t a ≡ true) l
+all-of t l e = has-all l (λ a. holds-all t e)
 
 pub holds-at : {A : Type 0} (t : A → Bool) (l : List A) (d : A) → allOf t l ≡ true → t d ≡ true → (i : ℕ) → t (getD l i d) ≡ true
 unfolding allOf

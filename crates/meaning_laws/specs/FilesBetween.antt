@@ -50,7 +50,7 @@ use Rattle.meaning.specs.Rounds.{markWith, placeWith, placesWith, withRounds}
 use Rattle.meaning_laws.specs.Facts.{Facts, start-with}
 use Rattle.meaning_laws.specs.Given.{facts}
 use Rattle.meaning_laws.specs.Third.{between}
-use Rattle.meaning_laws.specs.AllTaken.{spelled-append, all-taken}
+use Rattle.rules_laws.specs.AllTaken.{spelled-append, all-taken}
 use Rattle.meaning_laws.specs.Around.{rowWith, Around, around}
 use Rattle.meaning_laws.specs.Alike.{RoundsInRange, alike-places, same-collected}
 

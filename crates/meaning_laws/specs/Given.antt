@@ -15,7 +15,7 @@ use Rattle.laws.specs.Tests.{neither, tells-false}
 use Rattle.laws.specs.Arithmetic.{le-in, neg-rel}
 use Rattle.laws.specs.All.{All, none, also}
 use Rattle.laws.specs.Sizes.{Within}
-use Rattle.laws.specs.Members.{all-both}
+use Rattle.laws.specs.Members.{all-at, all-both}
 use Rattle.record.specs.declared.Content.{Content}
 use Rattle.record.specs.declared.Content.the-variants.{Number}
 use Rattle.record.specs.declared.Field.{Field}
@@ -59,11 +59,6 @@ use Rattle.meaning.specs.Judged.{startOf}
 use Rattle.meaning_laws.specs.Facts.{TermRefers, Refers, mostStart, StartHas, Facts}
 
 -- ---- lists
-
-all-at : {A : Type 0} (P : A → Type 0) (l : List A) (d : A) → All P l → P d → (i : ℕ) → P (getD l i d)
-all-at P [] d none p i = p
-all-at P (x ∷ l) d (also h t) p zero = h
-all-at P (x ∷ l) d (also h t) p (suc i) = all-at P l d t p i
 
 -- what is true of every element and of what stands past the end
 pub by-end : {A : Type 0} (P : A → Type 0) (l : List A) (d : A) (i : ℕ) → (i < length l → P (getD l i d)) → P d → P (getD l i d)

@@ -16,7 +16,6 @@ pub mod Between
 pub mod EndlessTimes
 pub mod EndlessGuards
 pub mod Third
-pub mod AllTaken
 pub mod Around
 pub mod Alike
 pub mod FilesBetween

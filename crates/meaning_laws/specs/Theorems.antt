@@ -11,7 +11,7 @@ use lib.IntN.{ℤ}
 use lib.Signed.{_≤ℤ_}
 use lib.ListN.{length, getD}
 use Rattle.laws.specs.Sizes.{within-size, size-within, Within}
-use Rattle.record.specs.Layout.{recordLength, cut}
+use Rattle.record.specs.Layout.{recordLength}
 use Rattle.record.specs.Spell.{IsSpelling}
 use Rattle.kinds.specs.declared.Kind.the-variants as kind
 use Rattle.kinds.specs.Kinds.{letterOf}
@@ -22,12 +22,10 @@ use Rattle.items.specs.declared.Guard.{Guard}
 use Rattle.items.specs.declared.Sentence.{Sentence}
 use Rattle.items.specs.Lists.{Items}
 use Rattle.answers.specs.declared.Judgement.{Judgement}
-use Rattle.answers.specs.Answers.{isTaken, numbersOf}
+use Rattle.answers.specs.Answers.{numbersOf}
 use Rattle.rules.specs.Rules.{markAt, Closed}
-use Rattle.rules.specs.Files.{AllTaken}
 use Rattle.collector.specs.declared.Case.{Case}
-use Rattle.collector.specs.Cases.{emptyCase, itemsOf}
-use Rattle.collector.specs.Taking.{collectedOf}
+use Rattle.collector.specs.Cases.{itemsOf}
 use Rattle.collector.specs.Sound.{Sound}
 use Rattle.meaning.specs.Run.{Moment, here, spot, countersAt, guardAt, Early}
 use Rattle.meaning.specs.Truth.{Trace, True}
@@ -42,7 +40,6 @@ use Rattle.meaning_laws.specs.Second as second
 use Rattle.meaning_laws.specs.Decided as truth
 use Rattle.meaning_laws.specs.Ceilings as ceilings
 use Rattle.meaning_laws.specs.Third as third
-use Rattle.meaning_laws.specs.AllTaken as taking
 use Rattle.meaning_laws.specs.FilesBetween as files
 
 -- ---- the answers
@@ -117,10 +114,6 @@ between-own c s p l n back h e i j k a b d y z =
     let at : ℕ → Valuation → Type 0 = λ m. IsAccepted (withRounds x p m) in
     subst (at j) (sym (start-with x p j))
     (between c s p l n back h e i j k a b d (startOf x) (subst (at i) (start-with x p i) y) (subst (at k) (start-with x p k) z))
-
--- all records of a file are taken by the rules exactly where the collector takes them
-pub all-taken : (bs : List ℕ) → AllTaken (cut bs) ↔ (isTaken (collectedOf emptyCase bs .answer) ≡ true)
-all-taken = taking.all-taken
 
 -- for three files alike in every byte but the seven of the rounds field of one counted loop, which spell a ≤ b ≤ c: if those with a and c are
 -- accepted, so is the one with b. The first byte of record i is P, and the field begins `roundsAt` bytes after it

@@ -41,6 +41,18 @@ Spellable (negsuc n) = suc n < 10 ^ (width - 1)
 abbrev pub IsSpelling : List ℕ → ℤ → Type 0
 IsSpelling bs z = (bs ≡ spell z) × Spellable z
 
+-- what a field says can be spelled: it is blank, or a number of those
+abbrev pub HasSpelling : Content → Type 0
+HasSpelling Blank = Unit {0}
+HasSpelling (Number z) = Spellable z
+HasSpelling (Bad k) = ⊥
+
+-- the bytes of a field that says so: spaces, or the spelling of its number; what is bad has none
+abbrev pub contentBytes : Content → List ℕ
+contentBytes Blank = replicate width space
+contentBytes (Number z) = spell z
+contentBytes (Bad k) = []
+
 -- the bytes of a field are well-formed: blank, or the spelling of a number
 abbrev pub WellFormed : List ℕ → Type 0
 WellFormed bs = (bs ≡ replicate width space) ⊎ ((z : ℤ) × IsSpelling bs z)

@@ -9,11 +9,12 @@ use lib.Dec.{leb→le, le→leb}
 use lib.IntN.{ℤ, pos, negsuc, negℤ}
 use lib.Signed.{_≤ℤ_}
 use lib.ListN.{length, replicate, length-append, length-replicate}
-use Rattle.record.specs.declared.Content.the-variants.{Blank, Number}
+use Rattle.record.specs.declared.Content.{Content}
+use Rattle.record.specs.declared.Content.the-variants.{Blank, Number, Bad}
 use Rattle.record.specs.Spelling.{space, contentOf}
-use Rattle.record.specs.Spell.{token, spell, Spellable}
+use Rattle.record.specs.Spell.{token, spell, Spellable, HasSpelling, contentBytes}
 use Rattle.record.specs.Layout.{width}
-use Rattle.record_laws.specs.Reading.{token-fits, number-reads, SaysAll, says-all}
+use Rattle.record_laws.specs.Reading.{token-fits, number-reads, spaces-blank, SaysAll, says-all}
 
 -- each number of the range has a spelling of seven bytes
 pub spell-length : (z : ℤ) → Spellable z → length (spell z) ≡ width
@@ -38,6 +39,17 @@ one-spelling bs z l e =
 -- what is blank is spaces
 pub blank-spaces : (bs : List ℕ) → contentOf bs ≡ Blank → bs ≡ replicate (length bs) space
 blank-spaces bs e = subst (SaysAll 0 bs) e (says-all 0 bs)
+
+-- the bytes of a field that can be spelled: seven, which say what it says
+pub content-long : (c : Content) → HasSpelling c → length (contentBytes c) ≡ width
+content-long Blank h = length-replicate width space
+content-long (Number z) h = spell-length z h
+content-long (Bad k) h = absurd h
+
+pub content-says : (c : Content) → HasSpelling c → contentOf (contentBytes c) ≡ c
+content-says Blank h = spaces-blank width 0
+content-says (Number z) h = spell-reads z
+content-says (Bad k) h = absurd h
 
 -- two numbers have two spellings
 pub spell-apart : (y z : ℤ) → spell y ≡ spell z → y ≡ z

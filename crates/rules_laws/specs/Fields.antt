@@ -17,6 +17,7 @@ use Rattle.laws.specs.Tab.{tab, tab-again}
 use Rattle.record.specs.declared.Content.{Content}
 use Rattle.record.specs.declared.Content.the-variants.{Blank, Number, Bad}
 use Rattle.record.specs.declared.Field.{Field}
+use Rattle.record.specs.Spell.{HasSpelling}
 use Rattle.record.specs.Layout.{fields, at}
 use Rattle.kinds.specs.declared.Kind.{Kind}
 use Rattle.kinds.specs.declared.Kind.the-variants as kind
@@ -59,7 +60,7 @@ pub record MeetsRule (u : Rule) (c : Content) : Type 0 where
 pub met : {k : Kind} {r : List Field} → Fit k r → (j : ℕ) → MeetsRule (ruleAt (shape k r) j) (at r j)
 met {k} {r} f j =
     record {
-      spelled = tells-false _ (tells-bad r j) (f .spelled j);
+      spelled = tells-false _ (tells-bad r j) (λ (k, e). subst HasSpelling e (f .spelled j));
       full = tells-false _ (tells-missing k r j) (f .full j);
       bare = tells-false _ (tells-extra k r j) (f .bare j);
       ranged = tells-false _ (tells-outside k r j) (f .ranged j);
@@ -282,6 +283,5 @@ module _ (g : ℕ → Content) where
   again : (k : Kind) (c : Content) → Again k (row c)
   again = each-kind (λ k. (c : Content) → Again k (row c)) state-again weights-again guard-again move-again sentence-again place-again
 
-pub fields-again : (k : Kind) (r : List Field) → length r ≡ fields → Fit k r → rowOf k (itemOf k r) ≡ r
-fields-again k r l =
-    subst (Again k) (tab-again blank r fields l) (again (at r) k (at r 1))
+pub fields-again : (k : Kind) (r : List Field) → Fit k r → rowOf k (itemOf k r) ≡ r
+fields-again k r f = subst (Again k) (tab-again blank r fields (f .long)) (again (at r) k (at r 1)) f

@@ -13,7 +13,7 @@ use Rattle.laws.specs.Members.{sum-le}
 use Rattle.laws.specs.Tests.{tells-not}
 use Rattle.record.specs.declared.Field.{Field}
 use Rattle.record.specs.declared.Record.{Record}
-use Rattle.record.specs.Layout.{fields, at, recordOf}
+use Rattle.record.specs.Layout.{fields, recordLength, lineFeed, at, recordOf}
 use Rattle.kinds.specs.declared.Kind.{Kind}
 use Rattle.kinds.specs.declared.Kind.the-variants.{Place}
 use Rattle.kinds.specs.declared.Counts.{Counts}
@@ -42,6 +42,7 @@ use Rattle.collector.specs.declared.Case.{Case}
 use Rattle.collector.specs.Cases.{changed, added, arraysOf, filled, caseBy, caseOf, itemsOf, driftsOf, oneMore, loopsWith, roundFrom, driftsWith, with, emptyCase}
 use Rattle.collector.specs.Taking.{takenOf, takenBy, takenAs}
 use Rattle.collector.specs.Sound.{Sound, Fit, There, LoopsApart}
+use Rattle.rules_laws.specs.Bytes.{length-row, all-spelled}
 use Rattle.rules_laws.specs.Letters.{by-head}
 use Rattle.rules_laws.specs.Loops.{loops-snoc}
 use Rattle.collector.proofs.Drifts.{no-places}
@@ -262,17 +263,19 @@ pub record Next (n : Counts) (l : Loops) (k : Kind) (r : Record) : Type 0 where
   pub there : There n k (r .fields)
   pub place : k ≡ Place → Placed l (n .places) (r .fields)
 
--- what follows from a record's being taken: its kind, its own fields, what is held, and the case after it
+-- what follows from a record's being taken: its length, its line feed, its kind, its own fields, what is held, and the case after it
 pub record IsTaken (c : Case) (bs : List ℕ) : Type 0 where
   pub kind : Kind
+  pub whole : length bs ≡ recordLength
+  pub ended : getD bs (recordLength - 1) 0 ≡ lineFeed
   pub letter : getD bs 0 0 ≡ letterOf kind
   pub fit : Fit kind (recordOf bs .fields)
   pub next : Next (c .count) (c .loops) kind (recordOf bs)
   pub case : takenOf c bs .case ≡ with c kind (recordOf bs .fields)
 
-fit-is : (k : Kind) (bs : List ℕ) → isTaken (fieldsAnswer (shapeOf k (recordOf bs)) (recordOf bs)) ≡ true → Fit k (recordOf bs .fields)
+fit-is : (k : Kind) (bs : List ℕ) → length bs ≡ recordLength → isTaken (fieldsAnswer (shapeOf k (recordOf bs)) (recordOf bs)) ≡ true → Fit k (recordOf bs .fields)
 unfolding fieldsAnswer formAnswer missingAnswer extraAnswer rangeAnswer
-fit-is k bs e =
+fit-is k bs l e =
     let r = recordOf bs in
     let s = shapeOf k r in
     let low : Fault → ℕ = λ f. lowestFault f s r in
@@ -283,7 +286,8 @@ fit-is k bs e =
     let p3 = passed (leb (low fault.Extra) fields) (Misfilled (low fault.Extra)) (rangeAnswer s r) refl (p2 .1) in
     let p4 = passed (leb (low fault.OutOfRange) fields) (OutOfRange (low fault.OutOfRange)) Taken refl (p3 .1) in
     record {
-      spelled = λ g. tells-not _ (tells-bad (r .fields) g) (none fault.Misspelled (p0 .0) g);
+      long = length-row bs;
+      spelled = all-spelled bs l (λ g. tells-not _ (tells-bad (r .fields) g) (none fault.Misspelled (p0 .0) g));
       full = λ g. tells-not _ (tells-missing k (r .fields) g) (none fault.Missing (p2 .0) g);
       bare = λ g. tells-not _ (tells-extra k (r .fields) g) (none fault.Extra (p3 .0) g);
       ranged = λ g. tells-not _ (tells-outside k (r .fields) g) (none fault.OutOfRange (p4 .0) g);
@@ -314,9 +318,9 @@ next-is n l k bs e =
     }
 
 module _ (c : Case) (bs : List ℕ) where
-  -- a head that is refused is not taken, and another has its kind's letter
+  -- a head that is refused is not taken, and another is that of a whole record with its kind's letter
   abbrev Headed : Head → Type 0
-  Headed (Of k) = IsA k bs
+  Headed (Of k) = (length bs ≡ recordLength) × (getD bs (recordLength - 1) 0 ≡ lineFeed) × IsA k bs
   Headed (Refused a) = isTaken a ≡ false
 
   taken-by : (h : Head) → Headed h → headOf bs ≡ h → isTaken (takenBy c h bs .answer) ≡ true → IsTaken c bs
@@ -327,12 +331,14 @@ module _ (c : Case) (bs : List ℕ) where
       let b = both-take (fieldsAnswer s (recordOf bs)) (orderAnswer (c .count) (c .loops) s (recordOf bs)) t in
       record {
         kind = k;
-        letter = r;
-        fit = fit-is k bs (b .0);
+        whole = r .0;
+        ended = r .1;
+        letter = r .2;
+        fit = fit-is k bs (r .0) (b .0);
         next = next-is (c .count) (c .loops) k bs (b .1);
         case = ap (λ h. takenBy c h bs .case) e ∙ ap (λ q. cond q (with c k (recordOf bs .fields)) c) t;
       }
 
   pub taken-with : isTaken (takenOf c bs .answer) ≡ true → IsTaken c bs
   unfolding takenOf
-  taken-with = taken-by (headOf bs) (by-head bs Headed (λ e. refl) (λ w e. refl) (λ w d e. refl) (λ w d k is. is)) refl
+  taken-with = taken-by (headOf bs) (by-head bs Headed (λ e. refl) (λ w e. refl) (λ w d e. refl) (λ w d k is. (w, d, is))) refl

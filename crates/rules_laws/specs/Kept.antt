@@ -22,7 +22,7 @@ use Rattle.kinds.specs.declared.Kind.the-variants as kind
 use Rattle.kinds.specs.declared.Counts.{Counts}
 use Rattle.kinds.specs.Kinds.{countOf, rankOf, same}
 use Rattle.kinds.specs.Last.{kindAt}
-use Rattle.kinds.specs.Laws.{same-is, same-self, kind-at, rank-below, by-kind, count-own, count-rest}
+use Rattle.kinds.specs.Laws.{same-is, same-self, kind-at, rank-below, later, HeldAbove, by-kind, count-own, count-rest}
 use Rattle.kinds.specs.Contents.{natural, isNumber, isBlank}
 use Rattle.table.specs.Sorts as sort
 use Rattle.table.specs.Table.{neededIf, inFilled, ruleAt, shapeOf}
@@ -56,17 +56,36 @@ more : (n : Counts) (k : Kind) → AtMost n (oneMore n k)
 more n k =
     by-kind (λ j. countOf n j ≤ countOf (oneMore n k) j) k (omega (arith, count-more n k)) (λ j e. omega (arith, count-other n k j e))
 
+-- so many of each kind an item reaches
+module _ (n : Counts) (k : Kind) (i : ℕ) where
+  abbrev earlier : Kind → ℕ
+  earlier j = cond (ltb (rankOf j) (rankOf k)) (countOf n j) 0
+
+  pub reach-own : countOf (reach n k i) k ≡ i
+  reach-own = count-own (λ j. i) earlier k
+
+  pub reach-rest : (j : Kind) → same k j ≡ false → countOf (reach n k i) j ≡ cond (ltb (rankOf j) (rankOf k)) (countOf n j) 0
+  reach-rest = count-rest (λ j. i) earlier k
+
 -- what an item reaches grows with what is held, and the next item reaches all that is held
 reaches : {n m : Counts} → AtMost n m → (k : Kind) (i : ℕ) → AtMost (reach n k i) (reach m k i)
 reaches {n} {m} a k i =
-    by-kind (λ j. countOf (reach n k i) j ≤ countOf (reach m k i) j) k (omega (arith, count-own (λ j. i) (countOf n) k, count-own (λ j. i) (countOf m) k))
-    (λ j e. omega (arith, count-rest (λ j. i) (countOf n) k j e, count-rest (λ j. i) (countOf m) k j e, a j))
+    by-kind (λ j. countOf (reach n k i) j ≤ countOf (reach m k i) j) k (omega (arith, reach-own n k i, reach-own m k i))
+    (λ j e. omega (arith, reach-rest n k i j e, reach-rest m k i j e, go (ltb (rankOf j) (rankOf k)) (a j)))
+  where
+    go : (t : Bool) {y z : ℕ} → y ≤ z → cond t y 0 ≤ cond t z 0
+    go true h = h
+    go false h = omega arith
 
-reaches-held : (n : Counts) (k : Kind) → AtMost n (reach (oneMore n k) k (countOf n k))
-reaches-held n k =
-    let i : Kind → ℕ = λ j. countOf n k in
-    by-kind (λ j. countOf n j ≤ countOf (reach (oneMore n k) k (countOf n k)) j) k (omega (arith, count-own i (countOf (oneMore n k)) k))
-    (λ j e. omega (arith, count-rest i (countOf (oneMore n k)) k j e, count-other n k j e))
+reaches-held : (n : Counts) (k : Kind) → (HeldAbove n (rankOf k) → ⊥) → AtMost n (reach (oneMore n k) k (countOf n k))
+reaches-held n k none =
+    let i = countOf n k in
+    by-kind (λ j. countOf n j ≤ countOf (reach (oneMore n k) k i) j) k (omega (arith, reach-own (oneMore n k) k i))
+    (λ j e. omega (arith, reach-rest (oneMore n k) k i j e, go j e (ltb (rankOf j) (rankOf k)) refl))
+  where
+    go : (j : Kind) → same k j ≡ false → (t : Bool) → ltb (rankOf j) (rankOf k) ≡ t → countOf n j ≤ cond t (countOf (oneMore n k) j) 0
+    go j e true b = omega (arith, count-other n k j e)
+    go j e false b = elim (decLt 0 (countOf n j)) [ yes h ↦ absurd (none (j, later k j e b, h)) | no h ↦ omega arith ]
 
 there-more : {n m : Counts} → AtMost n m → (k : Kind) (r : List Field) → There n k r → There m k r
 there-more {n} {m} a k r t f (z, d, h) =
@@ -82,19 +101,19 @@ there-more {n} {m} a k r t f (z, d, h) =
 -- ---- the fields of a place
 
 -- the length of a mark as a field
-abbrev lengthField : LoopMark → Content
+abbrev pub lengthField : LoopMark → Content
 lengthField mark.None = content.Blank
 lengthField (mark.Counted l n b) = content.Number (pos l)
 lengthField (mark.Endless l b) = content.Number (pos l)
 
-field-four : (s : ℕ) (w : Ref) (k : ℕ) (m : LoopMark) →
+pub field-four : (s : ℕ) (w : Ref) (k : ℕ) (m : LoopMark) →
     at (rowOf kind.Place (record { state = s; way = w; marks = k; mark = m })) 4 ≡ lengthField m
 unfolding rowOf
 field-four s w k mark.None = refl
 field-four s w k (mark.Counted l n b) = refl
 field-four s w k (mark.Endless l b) = refl
 
-field-two : (p : Place) → at (rowOf kind.Place p) 2 ≡ reference (p .way) .content
+pub field-two : (p : Place) → at (rowOf kind.Place p) 2 ≡ reference (p .way) .content
 unfolding rowOf
 field-two p = refl
 
@@ -158,7 +177,7 @@ before-place k e =
           absurd (true≢false (sym (same-self kind.Place) ∙ ap (λ j. same j kind.Place) (sym (ap kindAt i) ∙ kind-at k) ∙ e))
     ]
 
-empty-of : {A : Type 0} (l : List A) → length l ≡ 0 → l ≡ []
+pub empty-of : {A : Type 0} (l : List A) → length l ≡ 0 → l ≡ []
 empty-of [] e = refl
 empty-of (x ∷ l) e = absurd (omega arith)
 
@@ -196,8 +215,7 @@ module _ (c : Case) (s : Sound c) where
     x = itemOf k r
 
     again : rowOf k x ≡ r
-    unfolding recordOf
-    again = fields-again k r refl (t .fit)
+    again = fields-again k r (t .fit)
 
     -- the number of places and the places
     abbrev n : ℕ
@@ -268,7 +286,7 @@ module _ (c : Case) (s : Sound c) where
           there =
               all-with (λ j i y. There (reach (with c k r .count) j i) j (rowOf j y))
               (λ j i h. there-more (reaches (more (c .count) k) j i) j (rowOf j (getD (listOf j (itemsOf c)) i (noItem j))) (s .there j i h))
-              (there-more (reaches-held (c .count) k) k (rowOf k x) (subst (There (c .count) k) (sym again) (t .next .there)));
+              (there-more (reaches-held (c .count) k (t .next .order)) k (rowOf k x) (subst (There (c .count) k) (sym again) (t .next .there)));
           read = all-with (λ j i y. itemOf j (rowOf j y) ≡ y) (s .read) (ap (itemOf k) again);
           ways = places-with .ways;
           loops = places-with .loops;

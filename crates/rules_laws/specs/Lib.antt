@@ -10,5 +10,10 @@ pub mod First
 pub mod Kept
 pub mod Spelled
 pub mod Weights
+pub mod AllTaken
+pub mod Written
+pub mod Back
+pub mod Unrefused
+pub mod Again
 pub mod Theorems
 pub mod KeptDrifts

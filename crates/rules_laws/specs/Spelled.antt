@@ -9,9 +9,8 @@ use lib.ListN.{length, getD}
 use lib.Seq.{append-snoc}
 use borrow.Author.Tests.{eq-eqb}
 use Rattle.laws.specs.All.{sumOver}
-use Rattle.laws.specs.Tab.{length-tab}
 use Rattle.record.specs.declared.Field.{Field}
-use Rattle.record.specs.Layout.{fields, fieldAt, recordOf, cut}
+use Rattle.record.specs.Layout.{recordOf, cut}
 use Rattle.kinds.specs.declared.Kind.{Kind}
 use Rattle.kinds.specs.declared.Counts.{Counts}
 use Rattle.kinds.specs.Kinds.{letterOf, countOf, countsTotal}
@@ -41,10 +40,6 @@ module _ (b : List ℕ) (rs : List (List ℕ)) (k : Kind) (e : getD b 0 0 ≡ le
   unfolding rowsOf
   rows-other j o =
       ap (λ t. cond t (recordOf b .fields ∷ rowsOf j rs) (rowsOf j rs)) (ap (λ n. eqb n (letterOf j)) e ∙ o)
-
-length-row : (b : List ℕ) → length (recordOf b .fields) ≡ fields
-unfolding recordOf
-length-row b = length-tab (fieldAt b) fields 0
 
 total-more : (n : Counts) (k : Kind) → countsTotal (oneMore n k) ≡ countsTotal n + 1
 unfolding sumOver
@@ -82,7 +77,7 @@ module _ (c : Case) (b : List ℕ) (rs : List (List ℕ)) (t : IsTaken c b) wher
   rows-more f =
       by-kind (λ j. map (rowOf j) (map (itemOf j) (rowsOf j (b ∷ rs))) ≡ rowsOf j (b ∷ rs)) (t .kind)
       (rw (rows-same b rs (t .kind) (t .letter))
-      (ap₂ (λ r l. r ∷ l) (fields-again (t .kind) (recordOf b .fields) (length-row b) (t .fit)) (f (t .kind))))
+      (ap₂ (λ r l. r ∷ l) (fields-again (t .kind) (recordOf b .fields) (t .fit)) (f (t .kind))))
       (λ j o. rw (rows-other b rs (t .kind) (t .letter) j o) (f j))
 
   -- there is one item more

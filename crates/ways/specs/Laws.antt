@@ -1,5 +1,5 @@
 -- The search through a list that is gathered number by number, one element or none for each, and lists that are gathered. Assumes nothing.
-use mathlib.Core.Path.{_≡_, refl, _∙_, sym, ap, ap₂}
+use mathlib.Core.Path.{_≡_, refl, _∙_, sym, ap₂}
 use mathlib.Core.List.{List, [], _∷_, _++_, append-assoc}
 use mathlib.Core.Bool.{Bool, true, false, cond, not, _&&_}
 use Prim.Native.Nat.{ℕ, zero, suc, _+_, _*_, _/_, _%_, _<_}
@@ -58,15 +58,3 @@ module _ {A : Type 0} (f : ℕ → List A) (g : ℕ → Bool → List A) (two : 
       let even : g s false ≡ h (2 * s) = ap₂ g p (sym (ne-eqb (2 * s % 2) 1 (λ z. omega arith))) in
       let odd : g s true ≡ h (suc (2 * s)) = ap₂ g q (sym (eq-eqb (suc (2 * s) % 2) 1 (omega arith))) in
       rw (a, b) (ap₂ _++_ (two s ∙ ap₂ _++_ even odd) (gather-two (suc s) n) ∙ append-assoc (h (2 * s)) (h (suc (2 * s))) (gather h (from (2 * suc s) (2 * n))))
-
-module _ {A B : Type 0} (g : A → List B) where
-  gather-both : (l m : List A) → gather g (l ++ m) ≡ gather g l ++ gather g m
-  unfolding gather
-  gather-both [] m = refl
-  gather-both (a ∷ l) m = ap (λ k. g a ++ k) (gather-both l m) ∙ sym (append-assoc (g a) (gather g l) (gather g m))
-
-  -- what is gathered from what is gathered
-  pub gather-gather : (f : ℕ → List A) (l : List ℕ) → gather g (gather f l) ≡ gather (λ (k : ℕ). gather g (f k)) l
-  unfolding gather
-  gather-gather f [] = refl
-  gather-gather f (k ∷ l) = gather-both (f k) (gather f l) ∙ ap (λ m. gather g (f k) ++ m) (gather-gather f l)

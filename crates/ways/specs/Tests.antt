@@ -8,6 +8,7 @@ use native.Mathlib.Omega.{arith}
 use lib.Dec.{eqb}
 use lib.ListN.{length, getD}
 use Rattle.laws.specs.All.{All, none, also, from, gather}
+use Rattle.laws.specs.Gathered.{gather-gather}
 use Rattle.kinds.specs.declared.Kind.the-variants as kind
 use Rattle.items.specs.declared.Ref.{Ref}
 use Rattle.items.specs.declared.Ref.the-variants as ref
@@ -31,7 +32,7 @@ use Rattle.tables.specs.Reads.{at-places, at-moves, at-guards}
 use Rattle.guards.specs.Found.{found, found-start}
 use Rattle.tables.specs.Known.{first-is, rounds-are}
 use Rattle.ways.specs.Told.{isNamed, given}
-use Rattle.ways.specs.Laws.{ifThere, each, gather-two, gather-gather}
+use Rattle.ways.specs.Laws.{ifThere, each, gather-two}
 use Rattle.ways.specs.Ways.{wayNo, isWay, ways-listed, move-held, move-below}
 
 -- one of the two guards of a move

@@ -23,11 +23,11 @@ use Rattle.collector.specs.declared.Case.{Case}
 use Rattle.collector.specs.Cases.{emptyCase, itemsOf}
 use Rattle.collector.specs.Taking.{takenOf, collectedFrom, collectedOf}
 use Rattle.collector.specs.Sound.{Sound}
 use Rattle.rules_laws.specs.Stages.{refuses}
 use Rattle.rules_laws.specs.Held.{taken-with}
 use Rattle.rules_laws.specs.Kept.{sound-empty, sound-kept}
 use Rattle.rules_laws.specs.Spelled.{lists-more, goes-on}
-use Rattle.rules_laws.specs.Theorems.{answers}
+use Rattle.rules_laws.specs.First.{answers-first}
 
 -- ---- the case that records spell
 
@@ -92,7 +92,7 @@ module _ (ps : List (List ℕ)) (b : List ℕ) where
       subst (λ x. ((w : Answer) → Applies x b w → ⊥) ↔ (isTaken a ≡ true)) e
       (⊎-elim (λ t. (λ n. t .0, λ h. t .1))
       (λ f. (λ n. absurd (n a (f .applies)), λ h. absurd (true≢false (sym h ∙ refuses (itemsOf c) b a (f .applies)))))
-      (answers c b s))
+      (answers-first c b s))
 
 taken-on : (qs ps : List (List ℕ)) (c : Case) (m : ℕ) → Sound c → itemsOf c ≡ spelledBy ps →
     AllAfter ps qs ↔ (isTaken (collectedFrom c m qs .answer) ≡ true)
