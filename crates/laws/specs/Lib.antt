@@ -9,6 +9,7 @@ pub mod Lists
 pub mod All
 pub mod Members
 pub mod Gathered
+pub mod Parts
 pub mod Tab
 pub mod Lowest
 pub mod Down

@@ -110,6 +110,10 @@ pub all-both : {A : Type 0} {P : A → Type 0} {l m : List A} → All P l → Al
 all-both none b = b
 all-both (also h t) b = also h (all-both t b)
 
+pub all-parts : {A : Type 0} {P : A → Type 0} (l m : List A) → All P (l ++ m) → All P l × All P m
+all-parts [] m h = (none, h)
+all-parts (a ∷ l) m (also h t) = let r = all-parts l m t in (also h (r .0), r .1)
+
 -- ---- a test of each of a list
 
 -- whether t holds of all of a list
