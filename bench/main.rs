@@ -1,13 +1,15 @@
-//! The proved code against plain Rust that does the same computation: reading and taking a file of 213 records, and judging a case file, from
-//! its bytes to its result. Prints the time of a call and the ratio, measured by turns in one run, and the full size with 1 round against
-//! 1,000,000. `check` only compares the two, on these files and on the stored cases (standard input, as tests/cases.py prints them);
-//! `proved NAME` or `plain NAME` makes one call, for counting instructions.
+//! The proved code against plain Rust that does the same computation: reading and taking a file of 213 records, writing it back, and judging a
+//! case file, from its bytes to its result. Prints the time of a call and the ratio, measured by turns in one run, and the full size with 1 round
+//! against 1,000,000. `check` only compares the two, on these files and on the stored cases (standard input, as tests/cases.py prints them), and
+//! the bytes that they write; `proved NAME` or `plain NAME` makes one call, for counting instructions.
 mod cases;
 #[path = "../tests/library.rs"]
 mod library;
 mod plain;
 mod plain_judge;
+mod plain_write;
 
+use library::{Buffer, Stored};
 use plain::{Case, LENGTH};
 use std::hint::black_box;
 use std::process::exit;
@@ -15,6 +17,7 @@ use std::time::Instant;
 
 extern "C" {
     fn marks_held(src: *const u8, count: usize, place: usize) -> u32;
+    fn write_times(src: *const u8, count: usize, lent: *mut u8, room: usize, times: usize);
 }
 
 /// The place whose marks are read, so that the stores cannot be left out.
@@ -40,12 +43,35 @@ pub fn plain_case_result(src: &[u8]) -> usize {
     plain_judge::answer(src)[0]
 }
 
+/// So many times a file is written back, besides once, to tell the writing from the taking.
+const MORE: usize = 20;
+
+fn proved_write_times(src: &[u8], lent: &mut [u8], times: usize) -> usize {
+    // SAFETY: the function reads the bytes, writes into what is lent and keeps nothing.
+    unsafe { write_times(src.as_ptr(), src.len(), lent.as_mut_ptr(), lent.len(), times) }
+    times
+}
+
+#[no_mangle]
+#[inline(never)]
+pub fn plain_write_times(src: &[u8], lent: &mut [u8], times: usize) -> usize {
+    let mut case = Case::empty();
+    case.take_all(src);
+    for _ in 0..times {
+        black_box(&case).write(black_box(lent));
+    }
+    times
+}
+
+/// What is called on a file, with a buffer to write into.
+type Call = fn(&[u8], &mut [u8]) -> usize;
+
 /// A file, what is called on it, what both answer, and how many calls make a turn.
 struct Bench {
     name: &'static str,
     file: Vec<u8>,
-    proved: fn(&[u8]) -> usize,
-    plain: fn(&[u8]) -> usize,
+    proved: Call,
+    plain: Call,
     expected: usize,
     calls: usize,
 }
@@ -55,11 +81,11 @@ struct Bench {
 fn benches() -> [Bench; 5] {
     let judged = |name, file: Vec<u8>| {
         let calls = 60_000 / file.len();
-        Bench { name, file, proved: library::result, plain: plain_case_result, expected: 0, calls }
+        Bench { name, file, proved: |file, _| library::result(file), plain: |file, _| plain_case_result(file), expected: 0, calls }
     };
-    let file = cases::all_rooms();
+    let (file, expected) = (cases::all_rooms(), 1_048_575 - LAST);
     [
-        Bench { name: "213 records", file, proved: proved_marks_held, plain: plain_marks_held, expected: 1_048_575 - LAST, calls: 20 },
+        Bench { name: "213 records", file, proved: |file, _| proved_marks_held(file), plain: |file, _| plain_marks_held(file), expected, calls: 20 },
         judged("twelve-rounds", cases::TWELVE_ROUNDS.to_vec()),
         judged("middle", cases::plan(8, None, 10, 16, 1000)),
         judged("full-1", cases::full(1)),
@@ -67,32 +93,76 @@ fn benches() -> [Bench; 5] {
     ]
 }
 
+/// The file that is taken, written back once, and so many times more.
+fn writing() -> [Bench; 2] {
+    let written = |name, proved, plain, expected| Bench { name, file: cases::all_rooms(), proved, plain, expected, calls: 5 };
+    [
+        written("written once", |file, lent| proved_write_times(file, lent, 1), |file, lent| plain_write_times(file, lent, 1), 1),
+        written("written more", |file, lent| proved_write_times(file, lent, 1 + MORE), |file, lent| plain_write_times(file, lent, 1 + MORE), 1 + MORE),
+    ]
+}
+
+/// A buffer that is long enough for every file that is measured.
+fn buffer() -> Vec<u8> {
+    vec![0; 213 * LENGTH]
+}
+
 /// Both answer as they must.
-fn assert_alike(benches: &[Bench]) {
+fn assert_alike(benches: &[&Bench]) {
     for Bench { name, file, proved, plain, expected, .. } in benches {
-        assert_eq!([proved(file), plain(file)], [*expected; 2], "proved and plain Rust, {name}");
+        let buffer = &mut buffer();
+        assert_eq!([proved(file, buffer), plain(file, buffer)], [*expected; 2], "proved and plain Rust, {name}");
     }
+}
+
+/// Whether the two write the same of a file, into a buffer of this length.
+fn written_alike(file: &[u8], case: &Case, length: usize) -> bool {
+    let before = Buffer::new(length, file.len());
+    let mut after = before.clone();
+    let told = case.write(after.lent()).map_or([41, 0], |count| [0, count]);
+    library::write(file, &before) == (told, [after.clone(), after])
+}
+
+/// For buffers that are longer than what is held of a file, as long, and shorter: whether the two write the same.
+fn each_written_alike(file: &[u8]) -> [bool; 4] {
+    let mut case = Case::empty();
+    case.take_all(file);
+    let count = LENGTH * case.count.iter().sum::<usize>();
+    [count + 2 * LENGTH, count, count.saturating_sub(1), count / 2].map(|length| written_alike(file, &case, length))
+}
+
+/// Compares what the two write of the files that are measured, and of the stored cases.
+fn check_written(benches: &[Bench], stored: &[Stored]) -> bool {
+    let files = benches.iter().map(|bench| &bench.file).chain(stored.iter().map(|case| &case.bytes));
+    let alike: Vec<bool> = files.flat_map(|file| each_written_alike(file)).collect();
+    let passed = alike.iter().filter(|&&alike| alike).count();
+    println!("bench: buffers written into, four for each file: {passed} passed, {} failed", alike.len() - passed);
+    passed == alike.len()
 }
 
 /// Compares the two on the files that are measured, and on the stored cases.
 fn check(benches: &[Bench]) -> bool {
-    assert_alike(benches);
+    assert_alike(&Vec::from_iter(benches));
     println!("bench: files that are measured: {} passed, 0 failed", benches.len());
-    library::stored("bench", |bytes| Some(plain_judge::answer(bytes)))
+    let stored = library::stored();
+    let answers = library::compared("bench", &stored, |bytes| Some(plain_judge::answer(bytes)));
+    check_written(benches, &stored) && answers
 }
 
 /// Nanoseconds of one call, after a first that isn't counted.
-fn nanoseconds(calls: usize, call: fn(&[u8]) -> usize, file: &[u8]) -> f64 {
-    black_box(call(black_box(file)));
+fn nanoseconds(calls: usize, call: Call, file: &[u8]) -> f64 {
+    let mut buffer = buffer();
+    let mut once = || black_box(call(black_box(file), black_box(&mut buffer)));
+    once();
     let start = Instant::now();
     for _ in 0..calls {
-        black_box(call(black_box(file)));
+        once();
     }
     start.elapsed().as_nanos() as f64 / calls as f64
 }
 
 /// The medians of both, by turns.
-fn medians(benches: &[Bench], turns: usize) -> Vec<[f64; 2]> {
+fn medians(benches: &[&Bench], turns: usize) -> Vec<[f64; 2]> {
     let mut times: Vec<[Vec<f64>; 2]> = benches.iter().map(|_| [Vec::new(), Vec::new()]).collect();
     for _ in 0..turns {
         for (bench, [proved, plain]) in benches.iter().zip(&mut times) {
@@ -107,12 +177,24 @@ fn medians(benches: &[Bench], turns: usize) -> Vec<[f64; 2]> {
     times.into_iter().map(|pair| pair.map(median)).collect()
 }
 
-fn measure(benches: &[Bench]) {
-    assert_alike(benches);
+/// Prints the times of both, in microseconds, and the ratio.
+fn show(what: &str, [a, b]: [f64; 2]) {
+    println!("{what}: proved {:.2} us, plain Rust {:.2} us, ratio {:.2}", a / 1000.0, b / 1000.0, a / b);
+}
+
+/// Writing back alone: what the writing that comes after the first takes.
+fn measure_writing(writing: &[&Bench]) {
+    let [once, more] = medians(writing, 400)[..] else { panic!("two benchmarks") };
+    show("213 records written back", [0, 1].map(|side| (more[side] - once[side]) / MORE as f64));
+}
+
+fn measure(benches: &[Bench], writing: &[Bench]) {
+    let (benches, writing) = (Vec::from_iter(benches), Vec::from_iter(writing));
     let (taken, judged) = benches.split_at(1);
-    for [a, b] in medians(taken, 400) {
-        println!("213 records read and taken: proved {:.2} us, plain Rust {:.2} us, ratio {:.2}", a / 1000.0, b / 1000.0, a / b);
-    }
+    assert_alike(&benches);
+    assert_alike(&writing);
+    show("213 records read and taken", medians(taken, 400)[0]);
+    measure_writing(&writing);
     let times = medians(judged, 1000);
     for (Bench { name, file, .. }, [a, b]) in judged.iter().zip(&times) {
         println!("{name}, {} records judged: proved {a:.0} ns, plain Rust {b:.0} ns, ratio {:.2}", file.len() / LENGTH, a / b);
@@ -123,14 +205,14 @@ fn measure(benches: &[Bench]) {
 }
 
 fn main() {
-    let benches = benches();
+    let (benches, writing) = (benches(), writing());
     let words: Vec<String> = std::env::args().skip(1).collect();
-    let named = |name: &str| benches.iter().find(|bench| bench.name == name).expect("the name of a file");
+    let named = |name: &str| benches.iter().chain(&writing).find(|bench| bench.name == name).expect("the name of a file");
     match words.iter().map(String::as_str).collect::<Vec<_>>()[..] {
-        [] => measure(&benches),
+        [] => measure(&benches, &writing),
         ["check"] => exit(!check(&benches) as i32),
-        ["proved", name] => println!("{}", (named(name).proved)(&named(name).file)),
-        ["plain", name] => println!("{}", (named(name).plain)(&named(name).file)),
+        ["proved", name] => println!("{}", (named(name).proved)(&named(name).file, &mut buffer())),
+        ["plain", name] => println!("{}", (named(name).plain)(&named(name).file, &mut buffer())),
         _ => panic!("one of: check, proved NAME, plain NAME, or nothing"),
     }
 }

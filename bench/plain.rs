@@ -1,5 +1,5 @@
 // Plain Rust that reads records and collects them into a case with `&mut self`: the same tests as the proved collector's.
-const WIDTH: usize = 7;
+pub const WIDTH: usize = 7;
 const FIELDS: usize = 8;
 pub const LENGTH: usize = 58;
 pub const COUNTERS: usize = 4;

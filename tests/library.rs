@@ -1,11 +1,13 @@
-//! The proved library, called through its C functions; and the stored cases, answered by it and by another checker.
+//! The proved library, called through its C functions; buffers to write into; and the stored cases, answered by it and by another checker.
 use std::collections::BTreeSet;
 
 /// The three numbers of the line.
 pub type Answer = [usize; 3];
+/// What writing a case back tells: 0 and how many bytes, or 41 and 0.
+pub type Written = [usize; 2];
 
 /// So many failures are shown.
-const SHOWN: usize = 20;
+pub const SHOWN: usize = 20;
 /// Every result that a line can have.
 pub const RESULTS: [usize; 18] = [0, 11, 12, 13, 14, 15, 16, 21, 22, 23, 24, 25, 26, 31, 32, 33, 34, 35];
 
@@ -14,6 +16,8 @@ extern "C" {
     fn case_result(bytes: *const u8, count: usize) -> usize;
     fn case_second(bytes: *const u8, count: usize) -> usize;
     fn case_third(bytes: *const u8, count: usize) -> usize;
+    fn write_result(bytes: *const u8, count: usize, buffer: *mut u8, room: usize) -> usize;
+    fn write_count(bytes: *const u8, count: usize, buffer: *mut u8, room: usize) -> usize;
 }
 
 /// The first number of the library's answer.
@@ -28,24 +32,68 @@ pub fn answer(bytes: &[u8]) -> Answer {
     unsafe { [result(bytes), case_second(from, count), case_third(from, count)] }
 }
 
-/// A stored case as tests/cases.py prints it: its name, the numbers of its line and its bytes.
-fn parsed(line: &str) -> (&str, Answer, Vec<u8>) {
+/// The bytes on each side of a buffer.
+const MARGIN: usize = 64;
+
+/// A buffer to be lent, with more bytes on each side. All are bytes that no record has, and others for another seed, so that each one written
+/// shows.
+#[derive(Clone, PartialEq)]
+pub struct Buffer(Vec<u8>);
+
+impl Buffer {
+    pub fn new(length: usize, seed: usize) -> Buffer {
+        Buffer((0..MARGIN + length + MARGIN).map(|at| 128 | (37 * at + seed) as u8).collect())
+    }
+
+    /// What is lent of it.
+    pub fn lent(&mut self) -> &mut [u8] {
+        let end = self.0.len() - MARGIN;
+        &mut self.0[MARGIN..end]
+    }
+}
+
+/// The count of the library's writing: of the case that is held after a file is taken, into a buffer.
+pub fn count_written(bytes: &[u8], lent: &mut [u8]) -> usize {
+    // SAFETY: the function reads the bytes, writes into what is lent and keeps nothing; so does the other one.
+    unsafe { write_count(bytes.as_ptr(), bytes.len(), lent.as_mut_ptr(), lent.len()) }
+}
+
+/// What the library's writing tells, and the buffer after it; twice, for each of the two functions writes.
+pub fn write(bytes: &[u8], buffer: &Buffer) -> (Written, [Buffer; 2]) {
+    let [mut one, mut other] = [buffer.clone(), buffer.clone()];
+    let lent = one.lent();
+    let result = unsafe { write_result(bytes.as_ptr(), bytes.len(), lent.as_mut_ptr(), lent.len()) };
+    ([result, count_written(bytes, other.lent())], [one, other])
+}
+
+/// A stored case: its name, the numbers of its line and its bytes.
+pub struct Stored {
+    pub name: String,
+    pub expected: Answer,
+    pub bytes: Vec<u8>,
+}
+
+/// A stored case as tests/cases.py prints it.
+fn parsed(line: &str) -> Stored {
     let columns: Vec<&str> = line.split('\t').collect();
     let [name, numbers, hex] = columns[..] else { panic!("not a stored case: {line}") };
     let numbers: Vec<usize> = numbers.split(' ').map(|number| number.parse().expect("a number")).collect();
     let bytes = (0..hex.len()).step_by(2).map(|at| u8::from_str_radix(&hex[at..at + 2], 16).expect("a byte in hex"));
-    (name, numbers.try_into().expect("three numbers"), bytes.collect())
+    Stored { name: name.to_string(), expected: numbers.try_into().expect("three numbers"), bytes: bytes.collect() }
 }
 
-/// Compares the stored cases of standard input with the library and with the other checker, which may give up on a few (none).
+/// The stored cases of standard input.
+pub fn stored() -> Vec<Stored> {
+    std::io::stdin().lines().map(|line| parsed(&line.expect("a line"))).collect()
+}
+
+/// Compares stored cases with the library and with the other checker, which may give up on a few (none).
 /// Whether all are alike, and every result is among them.
-pub fn stored(program: &str, other: impl Fn(&[u8]) -> Option<Answer>) -> bool {
+pub fn compared(program: &str, cases: &[Stored], other: impl Fn(&[u8]) -> Option<Answer>) -> bool {
     let (mut passed, mut failed, mut given_up) = (0, 0, 0);
     let mut missing = BTreeSet::from(RESULTS);
-    for line in std::io::stdin().lines() {
-        let line = line.expect("a line");
-        let (name, expected, bytes) = parsed(&line);
-        let (library, other) = (answer(&bytes), other(&bytes));
+    for Stored { name, expected, bytes } in cases {
+        let (expected, library, other) = (*expected, answer(bytes), other(bytes));
         missing.remove(&expected[0]);
         given_up += other.is_none() as usize;
         if library == expected && other.unwrap_or(expected) == expected {

@@ -9,12 +9,11 @@ use std::cell::Cell;
 #[derive(Debug)]
 pub struct TooLong;
 
-/// The answer for a file, with at most `steps` steps of unrolling; and the case, where all records are taken.
-pub fn check(bytes: &[u8], mistake: Mistake, steps: u64) -> Result<(Answer, Option<Case>), TooLong> {
-    match read(bytes, mistake) {
-        Ok(case) => Ok((judge(&case, mistake, steps)?, Some(case))),
-        Err(refused) => Ok((refused, None)),
-    }
+/// The answer for a file, with at most `steps` steps of unrolling; and what is held of it.
+pub fn check(bytes: &[u8], mistake: Mistake, steps: u64) -> Result<(Answer, Held), TooLong> {
+    let held = read(bytes, mistake);
+    let answer = held.refused.map_or_else(|| judge(&held.case, mistake, steps), Ok)?;
+    Ok((answer, held))
 }
 
 impl Case {
@@ -61,8 +60,7 @@ pub fn guard_sum(guard: &Fields, counters: &[i64; 4]) -> i64 {
 
 /// 24, 31 to 35, or 0.
 pub fn judge(case: &Case, mistake: Mistake, steps: u64) -> Result<Answer, TooLong> {
-    let closed = case.endless().is_some_and(|(first, length)| first + length <= case.0[P].len());
-    if case.0[F].is_empty() || !closed {
+    if !case.finished() {
         return Ok([24, case.0.iter().map(Vec::len).sum(), 0]);
     }
     if case.0[P][0][1] != Some(0) {

@@ -1,22 +1,27 @@
 //! unroll cases COUNT SEED: case files, answered by the library and by the separate checker: the twelve rounds, given weights, with fields
-//! spelled badly, then random ones; and mistakes planted in the checker.
-//! unroll stored: the stored cases, as tests/cases.py prints them, from standard input, answered by both.
+//! spelled badly, then random ones; each is also written back by both, and between them files of any numbers. Mistakes are planted in both.
+//! unroll stored: the stored cases, as tests/cases.py prints them, from standard input, answered and written back by both.
 mod checker;
 #[path = "../library.rs"]
 mod library;
 mod mistakes;
 mod random;
 mod reader;
+mod rooms;
 mod shapes;
+mod writer;
+mod written;
 
 use checker::check;
-use library::{Answer, RESULTS};
+use library::{Answer, Stored, RESULTS};
 use mistakes::{Mistake, MISTAKES};
 use random::{misspelled, random_file, weighted, Random};
-use reader::{Case, Fields, F, KINDS, P, ROOM, T};
+use reader::{read, Case, Fields, Held, F, KINDS, P, ROOM, T};
+use rooms::any_rooms;
 use shapes::{endless_guards, shapes, GUARD_CASES, SHAPES};
 use std::collections::BTreeMap;
 use std::process::exit;
+use written::Writings;
 
 const TWELVE: &[u8] = include_bytes!("../../crates/plancheck/stdin");
 /// Steps of unrolling allowed for a random case, and for a stored one.
@@ -24,6 +29,10 @@ const STEPS: u64 = 500_000;
 const STORED_STEPS: u64 = 10_000_000;
 /// A mistake is tried until so many cases have found it.
 const FOUND: usize = 3;
+/// For so many cases, a file of any numbers is written back too.
+const ROOMS_EACH: usize = 8;
+/// Stored cases of fewer records are written into buffers of every length.
+const FEW: usize = 7;
 
 /// A counted loop of 2 or more rounds whose back move has a guard.
 fn guarded_loop(case: &Case) -> bool {
@@ -61,23 +70,23 @@ struct Seen {
 }
 
 impl Seen {
-    /// One more file, its answer and its case.
-    fn add(&mut self, bytes: &[u8], answer: Answer, case: Option<Case>) {
+    /// One more file, its answer and what is held of it.
+    fn add(&mut self, bytes: &[u8], answer: Answer, Held { case, refused }: &Held) {
         *self.results.entry(answer[0]).or_default() += 1;
-        if let Some(case) = case {
-            self.rich += (answer[0] == 0 && guarded_loop(&case) && counting_until(&case)) as usize;
+        if refused.is_none() {
+            self.rich += (answer[0] == 0 && guarded_loop(case) && counting_until(case)) as usize;
             for (times, (items, room)) in self.full.iter_mut().zip(case.0.iter().zip(ROOM)) {
                 *times += (items.len() == room) as usize;
             }
             if answer[0] == 0 || answer[0] > 32 {
-                self.shaped.iter_mut().zip(shapes(&case, answer)).for_each(|(times, has)| *times += has as usize);
-                let has = endless_guards(&case, answer).into_iter().flatten();
+                self.shaped.iter_mut().zip(shapes(case, answer)).for_each(|(times, has)| *times += has as usize);
+                let has = endless_guards(case, answer).into_iter().flatten();
                 self.endless.iter_mut().flatten().zip(has).for_each(|(times, has)| *times += has as usize);
             }
         }
         for (times, (mistake, _)) in self.found.iter_mut().zip(MISTAKES) {
             if *times < FOUND {
-                *times += check(bytes, *mistake, STEPS).is_ok_and(|(wrong, _)| wrong != answer) as usize;
+                *times += check(bytes, mistake, STEPS).is_ok_and(|(wrong, _)| wrong != answer) as usize;
             }
         }
         self.compared += 1;
@@ -110,15 +119,24 @@ impl Seen {
     }
 }
 
+/// Writes a file of any numbers back; its answer is compared where a record is refused.
+fn write_rooms(writings: &mut Writings, r: &mut Random) -> bool {
+    let bytes = any_rooms(r);
+    let (held, answer) = (read(&bytes, Mistake::Nothing), library::answer(&bytes));
+    writings.add(&bytes, &held, answer) && held.refused.is_none_or(|refused| refused == answer)
+}
+
 fn cases(count: usize, seed: u64) -> bool {
     let mut r = Random(seed);
+    let mut rooms = Random(!seed);
+    let mut writings = Writings::new(0);
     let results = RESULTS.iter().map(|&result| (result, 0)).collect();
     let mut seen = Seen { results, found: vec![0; MISTAKES.len()], ..Seen::default() };
     for bytes in misspelled(&weighted(TWELVE)).into_iter().chain(std::iter::repeat_with(|| random_file(&mut r))) {
         if seen.compared == count {
             break;
         }
-        let Ok((answer, case)) = check(&bytes, Mistake::Nothing, STEPS) else {
+        let Ok((answer, held)) = check(&bytes, Mistake::Nothing, STEPS) else {
             seen.too_long += 1;
             continue;
         };
@@ -129,7 +147,12 @@ fn cases(count: usize, seed: u64) -> bool {
             println!("unroll: cases: {} passed, 1 failed", seen.compared);
             return false;
         }
-        seen.add(&bytes, answer, case);
+        let written = writings.add(&bytes, &held, answer);
+        if !written || seen.compared % ROOMS_EACH == 0 && !write_rooms(&mut writings, &mut rooms) {
+            println!("unroll: case {} of seed {seed}, or the file of any numbers behind it, isn't written back rightly", seen.compared);
+            return false;
+        }
+        seen.add(&bytes, answer, &held);
     }
     let found = seen.found.iter().filter(|&&times| times == FOUND).count();
     println!("unroll: how often each result: {:?}; cases that fill a room: {:?}", seen.results, seen.full);
@@ -137,7 +160,21 @@ fn cases(count: usize, seed: u64) -> bool {
     let endless = Vec::from_iter(GUARD_CASES.iter().zip(seen.endless));
     println!("unroll: guards of the endless loop, and how many plans have such a sentence, and such a move: {endless:?}");
     println!("unroll: cases: {count} passed, 0 failed; they find {found} of {} planted mistakes", MISTAKES.len());
-    seen.enough()
+    writings.show();
+    let written = writings.enough();
+    seen.enough() && written
+}
+
+/// The stored cases, answered and written back.
+fn stored() -> bool {
+    let cases = library::stored();
+    let answers = library::compared("unroll", &cases, |bytes| Some(check(bytes, Mistake::Nothing, STORED_STEPS).ok()?.0));
+    let mut writings = Writings::new(FEW);
+    for Stored { expected, bytes, .. } in &cases {
+        writings.add(bytes, &read(bytes, Mistake::Nothing), *expected);
+    }
+    println!("{}", writings.passed("stored cases"));
+    writings.all_passed() && answers
 }
 
 fn main() {
@@ -145,7 +182,7 @@ fn main() {
     let words: Vec<&str> = words.iter().map(String::as_str).collect();
     let right = match words[..] {
         ["cases", count, seed] => cases(count.parse().expect("a count"), seed.parse().expect("a seed")),
-        ["stored"] => library::stored("unroll", |bytes| Some(check(bytes, Mistake::Nothing, STORED_STEPS).ok()?.0)),
+        ["stored"] => stored(),
         _ => panic!("unroll cases COUNT SEED, or unroll stored"),
     };
     if !right {

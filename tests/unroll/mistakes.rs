@@ -1,16 +1,16 @@
 //! The mistakes that can be planted in the separate checker: those that are easily made in a checker with formulas for loops, and others.
-//! What is a wrong formula there is put here as the same wrong result of the unrolling.
+//! What is a wrong formula there is put here as the same wrong result of the unrolling. Then those that can be planted in the separate speller.
 
-/// The enum of the mistakes, and the list of them with their words.
+/// An enum of mistakes, and the list of them with their words.
 macro_rules! mistakes {
-    ($($name:ident: $words:literal,)*) => {
+    ($kind:ident, $list:ident; $($name:ident: $words:literal,)*) => {
         #[derive(Clone, Copy, PartialEq)]
-        pub enum Mistake { Nothing, $($name),* }
-        pub const MISTAKES: &[(Mistake, &str)] = &[$((Mistake::$name, $words)),*];
+        pub enum $kind { Nothing, $($name),* }
+        pub const $list: [($kind, &str); [$($words),*].len()] = [$(($kind::$name, $words)),*];
     };
 }
 
-mistakes! {
+mistakes! { Mistake, MISTAKES;
     ExtraRound: "until: a goal inside a counted loop with n rounds' sum before it, not n - 1",
     RoundShort: "until: one round short in the sum past a counted loop",
     GrowthEndless: "until: the sign of the growth in the endless loop",
@@ -76,4 +76,37 @@ mistakes! {
     StartForMoves: "start: the weights seen by the guards of moves only",
     StartForSentences: "start: the weights seen by guard sentences only",
     StartAfterMoment0: "start: the weights not seen at moment 0, where guard sentences see 0",
+}
+
+mistakes! { Slip, SLIPS;
+    BlankAsZero: "a blank field written as 0",
+    ZeroAsBlank: "a 0 left blank",
+    MinusEarly: "the minus one byte early, with a space behind it",
+    MinusFirst: "the minus in the first byte of the field",
+    MinusLost: "the minus left out",
+    Plus: "a plus before a number above 0",
+    LeadingZero: "a 0 in front of a number",
+    SetLeft: "the number at the left of its field",
+    SixDigits: "the first of seven digits left out",
+    GuardsSwapped: "the two guards of a move swapped",
+    TermsSwapped: "the two terms of an until swapped",
+    TermLost: "the second term of an until left out",
+    RoundsLost: "the rounds of a counted loop left out",
+    EndlessOnce: "1 round written for an endless loop",
+    WayInLost: "the move into a place left out",
+    WeightsFirst: "the weights before the states",
+    WeightsLast: "the weights behind all other records",
+    MovesFirst: "the moves before the guards",
+    ZeroWeights: "weights of 0 written where there are none",
+    LastLeftOut: "the last record left out",
+    LineFeedLost: "a space in the place of the last record's line feed",
+    RefusedForgotten: "nothing written of a file with a refused record",
+    UnfinishedForgotten: "nothing written of a case that isn't finished",
+    TailBlanked: "the bytes behind the last record made spaces",
+    TailZeroed: "the bytes behind the last record made 0",
+    ByteBehind: "a byte 0 put behind the last record, as an end",
+    PartWritten: "41: the records that fit written before the refusal",
+    ExactRefused: "41: told of a buffer that is exactly as long as the case",
+    NeededTold: "41: the count that is needed told",
+    RecordsTold: "the count of records told, not of bytes",
 }

@@ -1,8 +1,8 @@
 //! Random case files from a seed: plans whose marks are right, with bounds set close to what they bound; damaged ones; and any bytes.
 use crate::checker::*;
-use crate::mistakes::Mistake;
+use crate::mistakes::{Mistake, Slip};
 use crate::reader::*;
-use std::io::Write;
+use crate::writer;
 
 /// The numbers that follow from a seed (splitmix64).
 pub struct Random(pub u64);
@@ -16,20 +16,20 @@ impl Random {
         z ^ (z >> 31)
     }
 
-    fn below(&mut self, count: usize) -> usize {
+    pub fn below(&mut self, count: usize) -> usize {
         (self.next() % count as u64) as usize
     }
 
-    fn between(&mut self, low: i64, high: i64) -> i64 {
+    pub fn between(&mut self, low: i64, high: i64) -> i64 {
         low + self.below((high - low + 1) as usize) as i64
     }
 
     /// True in so many of a hundred draws.
-    fn chance(&mut self, percent: usize) -> bool {
+    pub fn chance(&mut self, percent: usize) -> bool {
         self.below(100) < percent
     }
 
-    fn pick<A: Copy>(&mut self, list: &[A]) -> A {
+    pub fn pick<A: Copy>(&mut self, list: &[A]) -> A {
         list[self.below(list.len())]
     }
 }
@@ -51,16 +51,11 @@ fn filled(contents: &[i64]) -> Fields {
 }
 
 fn record(kind: usize, fields: &Fields) -> Vec<u8> {
-    let mut bytes = Vec::with_capacity(LENGTH);
-    bytes.push(LETTERS[kind]);
-    for content in &fields[1..] {
-        match content {
-            Some(number) => write!(bytes, "{number:>WIDTH$}").expect("room for a number"),
-            None => bytes.extend([b' '; WIDTH]),
-        }
-    }
-    bytes.push(b'\n');
-    bytes
+    writer::record(kind, fields, Slip::Nothing)
+}
+
+fn spelled(content: Option<i64>) -> String {
+    writer::spelled(content, Slip::Nothing)
 }
 
 /// A record of weights: numbers of all sizes, and often an end of what a field can spell; sometimes all 0.

@@ -21,18 +21,24 @@ pub const T: usize = 3;
 pub const F: usize = 4;
 pub const P: usize = 5;
 
-/// The case of a file, or the refusal of its first refused record.
-pub fn read(bytes: &[u8], mistake: Mistake) -> Result<Case, Answer> {
-    let mut case = Case::default();
+/// What is held after a file is taken: the case of the records before the first that is refused, and the answer to that one.
+pub struct Held {
+    pub case: Case,
+    pub refused: Option<Answer>,
+}
+
+/// Takes the records of a file, up to the first that is refused.
+pub fn read(bytes: &[u8], mistake: Mistake) -> Held {
+    let mut held = Held { case: Case::default(), refused: None };
     let whole = bytes.len() / LENGTH * LENGTH;
     let bytes = if mistake == ShortLastLeftOut { &bytes[..whole] } else { bytes };
     for (number, record) in bytes.chunks(LENGTH).enumerate() {
-        let refused = |(result, what)| [result, number, what];
-        let (kind, fields) = from_input(record, mistake).map_err(refused)?;
-        from_state(&case, kind, &fields, mistake).map_err(refused)?;
-        case.0[kind].push(fields);
+        if let Err((result, what)) = held.case.take(record, mistake) {
+            held.refused = Some([result, number, what]);
+            break;
+        }
     }
-    Ok(case)
+    held
 }
 
 /// A field: blank, or a number that is spelled back as it stands; anything else is none.
@@ -84,11 +90,6 @@ fn contents(record: &[u8], mistake: Mistake) -> Result<Fields, Refusal> {
         _ => place,
     };
     Err((14, what))
-}
-
-/// The seven characters of a field.
-pub fn spelled(content: Option<i64>) -> String {
-    content.map_or(" ".repeat(WIDTH), |number| format!("{number:>WIDTH$}"))
 }
 
 /// What fields 1 to 8 of a kind and form are: w propositions, a weight, c coefficient, b bound, s state, t move, g guard, u update, f form,
@@ -217,6 +218,19 @@ fn place_stands(case: &Case, fields: &Fields, mistake: Mistake) -> Result<(), Re
 }
 
 impl Case {
+    /// Takes a record, or refuses it.
+    fn take(&mut self, record: &[u8], mistake: Mistake) -> Result<(), Refusal> {
+        let (kind, fields) = from_input(record, mistake)?;
+        from_state(self, kind, &fields, mistake)?;
+        self.0[kind].push(fields);
+        Ok(())
+    }
+
+    /// Whether there is a sentence and the endless loop has its last place.
+    pub fn finished(&self) -> bool {
+        !self.0[F].is_empty() && self.endless().is_some_and(|(first, length)| first + length <= self.0[P].len())
+    }
+
     /// First place and length of the endless loop.
     pub fn endless(&self) -> Option<(usize, usize)> {
         let first = self.0[P].iter().position(|place| place[4].is_some() && place[5].is_none())?;

@@ -164,17 +164,17 @@ impl Written {
     pub fn told(self) -> Told
         ensures { λ r. ⌜ r ≡ writtenNumbers self ⌝ }
     {
-        match self {
-            Written::All(n) => Told {
-                result: 0,
-                second: n,
-                third: 0,
-            },
-            Written::TooShort => Told {
+        let Written::All(n) = self else {
+            return Told {
                 result: 41,
                 second: 0,
                 third: 0,
-            },
+            };
+        };
+        Told {
+            result: 0,
+            second: n,
+            third: 0,
         }
     }
 }

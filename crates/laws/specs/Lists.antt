@@ -1,10 +1,10 @@
 -- An element of a list by its number: past the end, where several in a row are the same, and in the first part, which further copies of what stands
 -- past the end don't change. Assumes nothing.
 use mathlib.Core.Path.{_≡_, refl, _∙_, sym, ap}
-use mathlib.Core.List.{List, [], _∷_, _++_, map}
+use mathlib.Core.List.{List, [], _∷_, _++_}
 use Prim.Native.Nat.{ℕ, zero, suc, _+_, _-_, _≤_, _<_}
 use native.Mathlib.Omega.{arith}
-use lib.ListN.{length, getD, take, drop, replicate, length-map, getD-replicate, List·getD-eq-default}
+use lib.ListN.{length, getD, take, drop, replicate, getD-replicate, List·getD-eq-default}
 use lib.Seq.{getD-take, getD-drop}
 
 -- element k of a list, counted from 1, and d where there is none
@@ -43,10 +43,6 @@ in-first d l (suc k) zero h = past-end d l (suc k) (h (omega arith))
 in-first d [] (suc k) (suc m) h = refl
 in-first d (x ∷ l) (suc zero) (suc m) h = refl
 in-first d (x ∷ l) (suc (suc k)) (suc m) h = in-first d l (suc k) m (λ a. omega (arith, h (omega arith)))
-
--- the length of an array, by what owning it tells
-pub unmapped : (X Y : Type 0) (f : X → Y) (l : List X) (n : ℕ) → length (map f l) ≡ n → length l ≡ n
-unmapped X Y f l n e = sym (length-map l f) ∙ e
 
 -- copies of what stands past the end don't change what is read
 pub at-left : {A : Type 0} (d : A) (n i : ℕ) → getD (replicate n d) i d ≡ d

@@ -2,12 +2,11 @@
 use borrow.Author.Needs.{needs}
 use mathlib.Core.Path.{_≡_, refl, sym, _∙_, ap, subst}
 use mathlib.Core.Logic.{⊎-elim}
-use mathlib.Core.List.{List}
+use mathlib.Core.List.{List, map}
 use Prim.Native.Nat.{ℕ, _+_, _-_, _≤_, _<_}
 use native.Mathlib.Omega.{arith}
 use lib.IntN.{ℤ, pos, _+ℤ_}
-use lib.ListN.{length}
-use Rattle.laws.specs.Lists.{unmapped}
+use lib.ListN.{length, length-map}
 use Rattle.kinds.specs.declared.Kind.the-variants as kind
 use Rattle.counters.specs.Values.{values-same}
 use Rattle.items.specs.declared.Move.{Move}
@@ -27,6 +26,9 @@ Inv-loop q n moves places v₀ back p₀ v p = (q ≤ p) × (p ≤ n) × Sums v 
 
 abbrev μ-loop : tie.MeasureT-loop
 μ-loop q n moves places v₀ back p₀ v p = n - p
+
+unmapped : (X Y : Type 0) (f : X → Y) (l : List X) (n : ℕ) → length (map f l) ≡ n → length l ≡ n
+unmapped X Y f l n e = sym (length-map l f) ∙ e
 
 -- a round of the loop from place q, whose back move is named first
 module _ (c : tie.After-slot Inv-loop μ-loop) where
