@@ -8,3 +8,4 @@ pub mod Starred
 pub mod Worked
 pub mod WorkedDrifts
 pub mod WorkedWeights
+pub mod WorkedFile

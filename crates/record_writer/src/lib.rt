@@ -157,6 +157,17 @@ fn put_form(part: &mut [u8], form: u8, first: Ref, second: Ref)
     put_reference(part, 3, second);
 }
 
+// Puts the form of an until, what is held, its goal, its bound and its terms into the fields of a record.
+fn put_until(part: &mut [u8], held: u8, goal: u8, bound: i32, term1: Term, term2: Term)
+    requires { ⌜ (recordLength ≤ length (now part)) × Spellable bound ⌝ }
+    ensures { λ _. ⌜ now (part .exit) ≡ fillFrom 1 (number 6 ∷ number held ∷ number goal ∷ integer bound ∷ (termFields term1 ++ termFields term2)) (now (part .entry)) ⌝ }
+{
+    put_form(part, 6, Ref::At(held), Ref::At(goal));
+    put_integer(part, 4, bound);
+    put_term(part, 5, term1);
+    put_term(part, 7, term2);
+}
+
 // Puts a loop mark into the fields from 4 on.
 fn put_mark(part: &mut [u8], mark: LoopMark)
     requires { ⌜ (recordLength ≤ length (now part)) × CanSpell (markFields mark) ⌝ }
@@ -221,17 +232,6 @@ pub fn write_move(part: &mut [u8], m: Move)
     put_counters(part, 3, m.updates);
     put_reference(part, 3 + PerCounter::COUNT, guard1);
     put_reference(part, 4 + PerCounter::COUNT, guard2);
-}
-
-// Puts the form of an until, what is held, its goal, its bound and its terms into the fields of a record.
-fn put_until(part: &mut [u8], held: u8, goal: u8, bound: i32, term1: Term, term2: Term)
-    requires { ⌜ (recordLength ≤ length (now part)) × Spellable bound ⌝ }
-    ensures { λ _. ⌜ now (part .exit) ≡ fillFrom 1 (number 6 ∷ number held ∷ number goal ∷ integer bound ∷ (termFields term1 ++ termFields term2)) (now (part .entry)) ⌝ }
-{
-    put_form(part, 6, Ref::At(held), Ref::At(goal));
-    put_integer(part, 4, bound);
-    put_term(part, 5, term1);
-    put_term(part, 7, term2);
 }
 
 // Writes the record of a sentence.
