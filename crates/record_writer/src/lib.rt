@@ -71,22 +71,21 @@ fn write_blank(part: &mut [u8], kind: Kind)
     part[Record::LENGTH - 1] = b'\n';
 }
 
-// Puts a number that is not below 0 into field f of a record, counted from 1.
-fn put_number(part: &mut [u8], f: usize, n: u32)
-    requires { ⌜ (recordLength ≤ length (now part)) × (1 ≤ f) × (f ≤ fields) × (n < 10 ^ width) ⌝ }
-    ensures { λ _. ⌜ now (part .exit) ≡ fillIn f (Number (pos n)) (now (part .entry)) ⌝ }
-{
-    let a = 1 + (f - 1) * Record::WIDTH;
-    write_digits(&mut part[a..], n);
-}
-
-// Puts any number into field f.
+// Puts a number into field f of a record, counted from 1.
 fn put_integer(part: &mut [u8], f: usize, x: i32)
     requires { ⌜ (recordLength ≤ length (now part)) × (1 ≤ f) × (f ≤ fields) × Spellable x ⌝ }
     ensures { λ _. ⌜ now (part .exit) ≡ fillIn f (Number x) (now (part .entry)) ⌝ }
 {
     let a = 1 + (f - 1) * Record::WIDTH;
     write_number(&mut part[a..], x);
+}
+
+// Puts a number that is not below 0 into field f.
+fn put_number(part: &mut [u8], f: usize, n: u32)
+    requires { ⌜ (recordLength ≤ length (now part)) × (1 ≤ f) × (f ≤ fields) × (n < 10 ^ width) ⌝ }
+    ensures { λ _. ⌜ now (part .exit) ≡ fillIn f (Number (pos n)) (now (part .entry)) ⌝ }
+{
+    put_integer(part, f, n as i32);
 }
 
 // Puts a reference into field f, which stays blank where it names nothing.

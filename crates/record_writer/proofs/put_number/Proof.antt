@@ -1,49 +1,24 @@
 -- `record_writer::put_number` meets its contract. Assumes nothing.
 use borrow.Author.Needs.{needs}
 use native.Mathlib.Omega.{arith}
-use Rattle.record.specs.Spell.{token}
-use Rattle.record_writer.proofs.Fill.{put-field}
+use lib.IntN.{pos}
+use Rattle.record_writer.proofs.Digits.{read-same}
 use Rattle.record_writer.proofs.put_number.Statement.{statement}
 use Rattle.record_writer.proofs.put_number.Tie as tie
 
-sub-a : tie.Need-sub-a
-sub-a c = search needs
+cast-put-integer : tie.Need-cast-put-integer
+cast-put-integer c = search needs
 
-mul-a : tie.Need-mul-a
-mul-a c = search needs
-
-add-a : tie.Need-add-a
-add-a c = search needs
-
-sub-write-digits : tie.Need-sub-write-digits
-sub-write-digits c = search needs
-
-part-write-digits-start : tie.Need-part-write-digits-start
-part-write-digits-start c = search needs
-
-part-write-digits-end : tie.Need-part-write-digits-end
-part-write-digits-end c = search needs
-
-write-digits-requires : tie.Need-write-digits-requires
-write-digits-requires c κs = search needs
+put-integer-requires : tie.Need-put-integer-requires
+put-integer-requires c κs =
+    let n = c .before .before .pre .3 in
+    (omega arith, omega arith, omega arith, rw (read-same (pos _) n) n)
 
 same-length : tie.Need-same-length
 same-length c = search needs
 
 returns : tie.Need-returns
-unfolding token
-returns c = put-field _ _ _ _ (c .before .before .before .before .before .args .f) (omega arith) (c .before .before .write-digits .ensures)
+returns c = rw (read-same (pos _) (c .before .before .before .before .before .pre .3)) at (c .before .before .put-integer .ensures)
 
 pub put-number-spec : {M : Type 1} → statement M
-put-number-spec =
-    tie.close
-    (tie.spec
-    sub-a
-    mul-a
-    add-a
-    sub-write-digits
-    part-write-digits-start
-    part-write-digits-end
-    write-digits-requires
-    same-length
-    returns)
+put-number-spec = tie.close (tie.spec cast-put-integer put-integer-requires same-length returns)
