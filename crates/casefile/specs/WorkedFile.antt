@@ -1,9 +1,8 @@
 -- The file of a case, worked out by the definitions from the items alone: an unfinished case with a number below 0, both ends of what a field can spell,
 -- 0 beside blank fields, and each kind of record. Assumes nothing.
 use mathlib.Core.Path.{_≡_, refl}
-use mathlib.Core.List.{List, [], _∷_}
+use mathlib.Core.List.{[], _∷_}
 use lib.IntN.{pos, negsuc}
-use Prim.Native.String.{String}
 use Rattle.laws.specs.All.{gather}
 use Rattle.record.specs.Spell.{lastDigits, numeral, token, spell}
 use Rattle.items.specs.declared.Ref.the-variants as ref

@@ -1,20 +1,20 @@
 -- A number put into a field: its digits from the last on, and a minus before them. Assumes nothing.
 use mathlib.Core.Path.{_≡_, refl, sym, _∙_, ap}
-use mathlib.Core.List.{List, [], _∷_, _++_, append-nil, append-assoc}
+use mathlib.Core.List.{List, [], _∷_, _++_, append-nil}
 use mathlib.Core.Bool.{true, false, true≢false}
 use Prim.Native.Nat.{ℕ, suc, _+_, _-_, _*_, _/_, _%_, _^_, _≤_, _<_}
 use native.Mathlib.Omega.{arith}
 use lib.IntN.{ℤ, pos, negsuc, natAbs, _-ℤ_, +ℤ-idl}
 use lib.Signed.{ltZ}
-use lib.ListN.{length, take, drop, getD, set, replicate, length-append, length-take, length-drop, length-replicate, take-append-drop, replicate-append-replicate}
-use lib.Seq.{length-take-le, take-suc, append-snoc, set-at, take-at}
+use lib.ListN.{length, take, drop, getD, set, length-append, length-take, length-drop, take-append-drop}
+use lib.Seq.{length-take-le, take-suc, append-snoc, set-at}
 use borrow.Author.Tests.{ltb-true}
 use mir.Syntax.{Width, w16, w32}
 use mir.Val.{SFits, toZ, ofZ}
 use mir.Facts.{toZ-ofZ}
 use Rattle.laws.specs.Sizes.{size, size-fits, fits-size, size-read}
-use Rattle.record.specs.Spelling.{space, minus, digit}
-use Rattle.record.specs.Spell.{numeral, token, spell, Spellable}
+use Rattle.record.specs.Spelling.{minus, digit}
+use Rattle.record.specs.Spell.{numeral, token, Spellable}
 use Rattle.record.specs.Layout.{width}
 use Rattle.record_laws.specs.Digits.{numeral-by, numeral-one, numeral-more, numeral-length}
 use Rattle.record_writer.specs.Fields.{endingAt, Put}
