@@ -9,8 +9,11 @@ use lib.Dec.{leb→le, le→leb}
 use lib.IntN.{ℤ, pos, negsuc, negℤ}
 use lib.Signed.{_≤ℤ_}
 use lib.ListN.{length, replicate, length-append, length-replicate}
+use Rattle.laws.specs.All.{All}
+use Rattle.laws.specs.Members.{all-map}
 use Rattle.record.specs.declared.Content.{Content}
 use Rattle.record.specs.declared.Content.the-variants.{Blank, Number, Bad}
+use Rattle.record.specs.declared.Field.{Field}
 use Rattle.record.specs.Spelling.{space, contentOf}
 use Rattle.record.specs.Spell.{token, spell, Spellable, HasSpelling, contentBytes}
 use Rattle.record.specs.Layout.{width}
@@ -45,6 +48,9 @@ pub content-long : (c : Content) → HasSpelling c → length (contentBytes c) �
 content-long Blank h = length-replicate width space
 content-long (Number z) h = spell-length z h
 content-long (Bad k) h = absurd h
+
+pub each-long : {r : List Field} → All (λ g. HasSpelling (g .content)) r → All (λ g. length (contentBytes (g .content)) ≡ width) r
+each-long h = all-map (λ g. content-long (g .content)) h
 
 pub content-says : (c : Content) → HasSpelling c → contentOf (contentBytes c) ≡ c
 content-says Blank h = spaces-blank width 0

@@ -7,8 +7,8 @@ use native.Mathlib.Omega.{arith}
 use lib.IntN.{ℤ, pos}
 use lib.ListN.{length, getD, take, drop, set, replicate, length-map, length-set, length-append, length-replicate, replicate-append-replicate, List·getD-map}
 use lib.Seq.{take-at, take-append-add, drop-append-add, append-snoc, take-add, drop-drop, drop-cons, set-at, take-all, take-suc, length-take-le}
-use Rattle.laws.specs.All.{All, none, also, gather}
-use Rattle.laws.specs.Members.{all-at, all-map, all-both, all-parts}
+use Rattle.laws.specs.All.{none, also, gather}
+use Rattle.laws.specs.Members.{all-at, all-both, all-parts}
 use Rattle.laws.specs.Gathered.{gather-both, gather-long}
 use Rattle.laws.specs.Parts.{lent, back, lent-all, back-all}
 use Rattle.record.specs.declared.Content.{Content}
@@ -18,7 +18,7 @@ use Rattle.record.specs.Spelling.{space}
 use Rattle.record.specs.Spell.{Spellable, token, spell, HasSpelling, contentBytes}
 use Rattle.record.specs.Layout.{width, fields, lineFeed}
 use Rattle.record_laws.specs.Reading.{token-fits}
-use Rattle.record_laws.specs.Spelled.{content-long}
+use Rattle.record_laws.specs.Spelled.{each-long}
 use Rattle.kinds.specs.declared.Kind.{Kind}
 use Rattle.kinds.specs.declared.Kind.the-variants as kind
 use Rattle.kinds.specs.Kinds.{letterOf, counters}
@@ -145,9 +145,6 @@ over-blank l r f (Bad k) n p h = absurd h
 
 -- ---- all fields
 
-widths : {r : List Field} → CanSpell r → All (λ g. length (fieldBytes g) ≡ width) r
-widths s = all-map (λ g. content-long (g .content)) s
-
 -- the bytes before the fields that are still blank
 abbrev begun : Kind → List Field → List ℕ
 begun k r = letterOf k ∷ gather fieldBytes r
@@ -166,7 +163,7 @@ fill-fields k rest (x ∷ xs) before f n e h b (also p s) =
     let m = n - 1 in
     let d : n ≡ suc (n - 1) = omega arith in
     let i : n - 1 - length xs ≡ n - suc (length xs) = omega arith in
-    let l : length (begun k before) ≡ 1 + (f - 1) * width = omega (arith, gather-long fieldBytes width (widths b)) in
+    let l : length (begun k before) ≡ 1 + (f - 1) * width = omega (arith, gather-long fieldBytes width (each-long b)) in
     let more : begun k before ++ (fieldBytes x ++ left m rest) ≡ begun k (before ++ (x ∷ [])) ++ left m rest =
     sym (append-assoc (begun k before) (fieldBytes x) (left m rest))
     ∙ ap (λ g. (letterOf k ∷ g) ++ left m rest) (sym (gather-both fieldBytes before (x ∷ []) ∙ ap (λ g. gather fieldBytes before ++ g) (append-nil (fieldBytes x)))) in

@@ -5,15 +5,15 @@ use Prim.Native.Nat.{ℕ, zero, suc, _+_, _-_, _*_, _≤_}
 use native.Mathlib.Omega.{arith}
 use lib.ListN.{length, getD, take, drop, length-append, take-append-drop, drop-of-length-le}
 use lib.Seq.{getD-at, ext-getD, drop-cons, drop-drop, take-add}
-use Rattle.laws.specs.All.{All, gather}
-use Rattle.laws.specs.Members.{all-by, all-map}
+use Rattle.laws.specs.All.{gather}
+use Rattle.laws.specs.Members.{all-by}
 use Rattle.laws.specs.Gathered.{gather-long, gather-at}
 use Rattle.laws.specs.Tab.{tab, at-tab}
 use Rattle.record.specs.declared.Field.{Field}
 use Rattle.record.specs.Spelling.{contentOf}
 use Rattle.record.specs.Spell.{HasSpelling, contentBytes}
 use Rattle.record.specs.Layout.{width, fields, recordLength, lineFeed, bytesAt, fieldAt, recordOf, at}
-use Rattle.record_laws.specs.Spelled.{content-long, content-says}
+use Rattle.record_laws.specs.Spelled.{each-long, content-says}
 use Rattle.kinds.specs.declared.Kind.{Kind}
 use Rattle.kinds.specs.Kinds.{letterOf}
 use Rattle.items.specs.Items.{itemOf, blank}
@@ -33,11 +33,8 @@ can-spell {k} {r} f = all-by blank r (λ j h. f .spelled (suc j))
 
 -- the record of a row that meets its rules
 module _ {k : Kind} {r : List Field} (f : Fit k r) where
-  widths : All (λ g. length (fieldBytes g) ≡ width) r
-  widths = all-map (λ g. content-long (g .content)) (can-spell f)
-
   row-long : length (gather fieldBytes r) ≡ fields * width
-  row-long = gather-long fieldBytes width widths ∙ ap (λ n. n * width) (f .long)
+  row-long = gather-long fieldBytes width (each-long (can-spell f)) ∙ ap (λ n. n * width) (f .long)
 
   pub record-long : length (recordBytes k r) ≡ recordLength
   unfolding recordBytes
@@ -57,7 +54,7 @@ module _ {k : Kind} {r : List Field} (f : Fit k r) where
       at-tab (fieldAt b) fields 1 j blank (omega (arith, length-row b))
       ∙ ap (fieldAt b) e
       ∙ ap (λ m. record { content = contentOf (take width (drop m b)) }) i
-      ∙ ap (λ bs. record { content = contentOf bs }) (gather-at fieldBytes width widths j (lineFeed ∷ []) blank (omega (arith, length-row b, f .long)))
+      ∙ ap (λ bs. record { content = contentOf bs }) (gather-at fieldBytes width (each-long (can-spell f)) j (lineFeed ∷ []) blank (omega (arith, length-row b, f .long)))
       ∙ ap (λ c. record { content = c }) (content-says (at r (suc j)) (f .spelled (suc j))))
 
 -- ---- a record that is taken

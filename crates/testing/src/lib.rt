@@ -8,6 +8,7 @@ ghost use Rattle.collector.specs.Sound.{Sound};
 ghost use Rattle.casefile.specs.Answer.{answerOf};
 ghost use Rattle.writer.specs.Written.{writtenOf, bufferAfter};
 ghost use Rattle.testing.specs.Held.{marksAt, fileHeld, times};
+use answers::Told;
 use collector::Case;
 
 // The case that is held after a file is taken, up to the first record that is refused.
@@ -52,13 +53,21 @@ pub extern "C" fn case_third(src: &[u8]) -> usize
     casefile::answer(src).third
 }
 
-// What is held after a file, written into a buffer: the first two of the numbers that are told.
+// Writes what is held after a file into a buffer, and gives the numbers that are told.
+fn written(src: &[u8], buf: &mut [u8]) -> Told
+    ensures { λ r. ⌜ r ≡ writtenNumbers (writtenOf (fileHeld (now (src .entry))) (length (now (buf .entry)))) ⌝ }
+    ensures { λ _. ⌜ now (buf .exit) ≡ bufferAfter (fileHeld (now (src .entry))) (now (buf .entry)) ⌝ }
+{
+    writer::write(held(src), buf).told()
+}
+
+// The same, for the first two of the numbers.
 #[no_mangle]
 pub extern "C" fn write_result(src: &[u8], buf: &mut [u8]) -> usize
     ensures { λ r. ⌜ r ≡ writtenNumbers (writtenOf (fileHeld (now (src .entry))) (length (now (buf .entry)))) .result ⌝ }
     ensures { λ _. ⌜ now (buf .exit) ≡ bufferAfter (fileHeld (now (src .entry))) (now (buf .entry)) ⌝ }
 {
-    writer::write(held(src), buf).told().result
+    written(src, buf).result
 }
 
 #[no_mangle]
@@ -66,7 +75,7 @@ pub extern "C" fn write_count(src: &[u8], buf: &mut [u8]) -> usize
     ensures { λ r. ⌜ r ≡ writtenNumbers (writtenOf (fileHeld (now (src .entry))) (length (now (buf .entry)))) .second ⌝ }
     ensures { λ _. ⌜ now (buf .exit) ≡ bufferAfter (fileHeld (now (src .entry))) (now (buf .entry)) ⌝ }
 {
-    writer::write(held(src), buf).told().second
+    written(src, buf).second
 }
 
 // Writes what is held after a file n times over, so that a benchmark can tell the writing from the taking.
