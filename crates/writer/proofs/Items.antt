@@ -99,7 +99,7 @@ module _ {c : Case} {p₀ p : List ℕ} {n r i : ℕ} (s : Sound c) (u : Upto c 
   abbrev k : Kind
   k = kindAt r
 
-  -- there are fewer items than bytes
+  -- the items of the kind are no more than the bytes
   pub upto-few : i ≤ n
   upto-few =
       omega
