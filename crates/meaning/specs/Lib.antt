@@ -2,6 +2,7 @@ pub mod Run
 pub mod Drift
 pub mod Truth
 pub mod Judged
+pub mod Marking
 pub mod Paper
 pub mod Files
 pub mod Rounds

@@ -11,7 +11,7 @@ pub mod Counting
 pub mod Below
 pub mod Decided
 pub mod Repeats
-pub mod Rounds
+pub mod Plans
 pub mod Between
 pub mod EndlessTimes
 pub mod EndlessGuards

@@ -31,7 +31,7 @@ use Rattle.meaning.specs.Rounds.{placesWith, withRounds}
 use Rattle.verdict.specs.Labels.{Label, labelOf}
 use Rattle.meaning_laws.specs.Facts.{Facts, Refers}
 use Rattle.meaning_laws.specs.Lists.{all-grid}
-use Rattle.meaning_laws.specs.Rounds.{same-move, same-state, same-marked, same-ways, same-tests, same-connects, same-closed, same-laid}
+use Rattle.meaning_laws.specs.Plans.{SamePlan, plan-back, same-move, same-ways, same-tests, same-connects, same-closed, same-laid, other-rounds, same-marked}
 use Rattle.meaning_laws.specs.Counting.{Gets}
 use Rattle.meaning_laws.specs.Below.{below, RightBelow, SaysBelow, until-labels}
 use Rattle.meaning_laws.specs.Stays.{in-plan}
@@ -47,6 +47,9 @@ module _ (x : Items) (f : Facts x) (s l n back : ℕ) (held : s < length (x .pla
   abbrev P : ℕ → List Place
   P k = placesWith (x .places) s (suc k)
 
+  plan : (k : ℕ) → SamePlan (x .places) (P k)
+  plan k = other-rounds (x .places) s (suc k)
+
   -- how the runs lie to each other
   abbrev r : Repeats P
   r = repeats (x .places) (f .laid) s l n back held is
@@ -54,7 +57,7 @@ module _ (x : Items) (f : Facts x) (s l n back : ℕ) (held : s < length (x .pla
   -- ---- counters
 
   same-update : (k m : ℕ) (v w : Way) (j : ℕ) → v ≡ w → update (moveBy (X k) v) j ≡ update (moveBy (X m) w) j
-  same-update k m v w j e = ap (λ t. update t j) (same-move x s (suc k) v ∙ ap (moveBy x) e ∙ sym (same-move x s (suc m) w))
+  same-update k m v w j e = ap (λ t. update t j) (same-move x (plan k) v ∙ ap (moveBy x) e ∙ sym (same-move x (plan m) w))
 
   -- before the loop is left the counters are the same
   counters-before : {k m d : ℕ} → MoreRounds (r .round) k m d → (i j : ℕ) → i < left P r k → countersAt (X m) θ i j ≡ countersAt (X k) θ i j
@@ -242,7 +245,7 @@ module _ (x : Items) (f : Facts x) (s l n back : ℕ) (held : s < length (x .pla
     has-bit : (k v m : ℕ) → (bit (getD (x .states) (stateAt x (here (spot (P k) m))) (noItem kind.State) .propositions) v ≡ true) ↔ (bit (traceOf (X k) θ .propositions m) v ≡ true)
     has-bit k v m =
         let e : bit (traceOf (X k) θ .propositions m) v ≡ bit (getD (x .states) (stateAt x (here (spot (P k) m))) (noItem kind.State) .propositions) v =
-        ap (λ z. bit (getD (x .states) z (noItem kind.State) .propositions) v) (same-state x s (suc k) (here (spot (P k) m))) in
+        ap (λ z. bit (getD (x .states) z (noItem kind.State) .propositions) v) (plan k .states (here (spot (P k) m))) in
         (λ h. e ∙ h, λ h. sym e ∙ h)
 
     says-between : (i : ℕ) (φ : Form) → Refers i φ → ((j : ℕ) → j < i → RightIn a j) → ((j : ℕ) → j < i → RightIn b j) → ((j : ℕ) → j < i → RightIn c j) →
@@ -281,7 +284,7 @@ module _ (x : Items) (f : Facts x) (s l n back : ℕ) (held : s < length (x .pla
     rights-of : (k : ℕ) → IsAccepted (X k) θ → (i : ℕ) → i < length (x .sentences) → RightIn k i
     rights-of k h i g m =
         subst (λ f. (f i (here (spot (P k) m)) ≡ true) ↔ TrueAt (X k) θ i m) (same-marked x s (suc k))
-        ((all-grid (length (X k .sentences)) (length (X k .places)) .0 (h .0 .1) i (here (spot (P k) m)) g (in-plan (X k) (same-laid (x .places) s (suc k) (f .laid)) (h .0 .0 .0 .0 .0 .1) m)) .same m refl)
+        ((all-grid (length (X k .sentences)) (length (X k .places)) .0 (h .0 .1) i (here (spot (P k) m)) g (in-plan (X k) (same-laid (plan k) (f .laid)) (h .0 .0 .0 .0 .0 .1) m)) .same m refl)
 
     to-rights : (k : ℕ) → ((i : ℕ) → i < length (x .sentences) → RightIn k i) → All (Right (X k) θ) (marksOf (X k))
     to-rights k h = all-grid (length (X k .sentences)) (length (X k .places)) .1 (λ i p g q. record {
@@ -297,10 +300,10 @@ module _ (x : Items) (f : Facts x) (s l n back : ℕ) (held : s < length (x .pla
       (
         (
           (
-            ((ha .0 .0 .0 .0 .0 .0, same-closed x s (suc b) .1 (same-closed x s (suc a) .0 (ha .0 .0 .0 .0 .0 .1))), same-state x s (suc b) 0 ∙ sym (same-state x s (suc a) 0) ∙ ha .0 .0 .0 .0 .1),
-            over (same-ways x s (suc a) ∙ sym (same-ways x s (suc b))) (all-map (λ w h. same-connects x s (suc b) w .1 (same-connects x s (suc a) w .0 h)) (ha .0 .0 .0 .1)),
+            ((ha .0 .0 .0 .0 .0 .0, same-closed x (plan b) (same-closed (X a) (plan-back (plan a)) (ha .0 .0 .0 .0 .0 .1))), plan b .states 0 ∙ sym (plan a .states 0) ∙ ha .0 .0 .0 .0 .1),
+            over (same-ways x (plan a) ∙ sym (same-ways x (plan b))) (all-map (λ w h. same-connects x (plan b) w (same-connects (X a) (plan-back (plan a)) w h)) (ha .0 .0 .0 .1)),
           ),
-          over (sym (same-tests x s (suc b))) (all-zip passes-between (over (same-tests x s (suc a)) (ha .0 .0 .1)) (over (same-tests x s (suc c)) (hc .0 .0 .1))),
+          over (sym (same-tests x (plan b))) (all-zip passes-between (over (same-tests x (plan a)) (ha .0 .0 .1)) (over (same-tests x (plan c)) (hc .0 .0 .1))),
         ),
         to-rights b (λ i g. rights-between (rights-of a ha) (rights-of c hc) (suc i) i (omega arith) g),
       ),

@@ -2,4 +2,5 @@ pub mod Rounds
 pub mod Forward
 pub mod Best
 pub mod Verdict
+pub mod Fill
 pub mod Labels

@@ -137,6 +137,10 @@ judgementBy x true true nowhere nowhere (at k) r = WrongMark (record { 0 = k .pl
 judgementBy x true true nowhere nowhere nowhere false = RootUnmarked (root x)
 judgementBy x true true nowhere nowhere nowhere true = Accepted
 
+-- the first of 24, 31, 32 and 33 that applies; Accepted where none does
+unfoldable pub beforeMarks : Items → Valuation → Judgement
+beforeMarks x θ = judgementBy x (finished x) (eqb (stateAt x 0) 0) (firstNot (connects x) (waysOf x)) (firstNot (passes x θ) (testsOf x)) nowhere true
+
 -- the answer
 unfoldable pub verdict : Items → Valuation → Judgement
 verdict x θ =

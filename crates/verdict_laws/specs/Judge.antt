@@ -1,7 +1,7 @@
 -- The answer of a judgement is the one that the meaning leaves: each test tells, and they stand in document 01's order. Assumes nothing.
-use mathlib.Core.Path.{_≡_, refl, ap, subst}
+use mathlib.Core.Path.{_≡_, refl, ap}
 use mathlib.Core.Logic.{_↔_, _⊎_, inl, inr, ⊎-elim}
-use mathlib.Core.List.{List, map, List·Memᴰ·not-nil, List·Memᴰ·eq-of-singleton, List·Memᴰ·append-cases, Memᴰ·map, Memᴰ·of-map}
+use mathlib.Core.List.{List, map, List·Memᴰ·not-nil, List·Memᴰ·eq-of-singleton, List·Memᴰ·append-cases}
 use mathlib.Core.Bool.{Bool, true, false, cond, false≢true}
 use Prim.Native.Nat.{ℕ, zero, suc, _+_, _<_}
 use native.Mathlib.Omega.{arith}
@@ -11,7 +11,7 @@ use lib.ListN.{length, getD}
 use borrow.Author.Tests.{eqb-true, eq-eqb}
 use Rattle.laws.specs.Tests.{tells-and, tells-lt, tells-not}
 use Rattle.laws.specs.All.{All, from, gather}
-use Rattle.laws.specs.Members.{Has, all-has, has-all, has-below, gather-has, all-pairs}
+use Rattle.laws.specs.Members.{Has, has-all, gather-has, all-pairs}
 use Rattle.kinds.specs.declared.Kind.the-variants as kind
 use Rattle.counters.specs.Sum.{Valuation}
 use Rattle.items.specs.declared.LoopMark.{LoopMark}
@@ -29,6 +29,7 @@ use Rattle.meaning.specs.Run.{Moment, Way, here, spot, placeAt, backOf, moveNo,
 use Rattle.meaning.specs.Judged.{stateAt, wayIn, wayBack, waysInto, waysOf, placeBefore, Connects, Test, testsOf, Passes, Fails, Mark, marksOf, marked, root, Right, Wrong, Finished, Judged}
 use Rattle.meaning_laws.specs.Facts.{Facts}
 use Rattle.meaning_laws.specs.Given.{facts}
+use Rattle.meaning_laws.specs.Lists.{markFor, all-row}
 use Rattle.meaning_laws.specs.Stays.{in-plan}
 use Rattle.meaning_laws.specs.Below.{RightBelow}
 use Rattle.verdict.specs.declared.Throughout.{Throughout}
@@ -126,10 +127,7 @@ module _ (x : Items) where
           bad = λ e. test-fails x f c θ t m (tells-not _ (is-always (testThrough x θ t)) e);
         })))
 
-    -- sentence i at place p, and at each place
-    abbrev markFor : ℕ → ℕ → Mark
-    markFor i p = record { sentence = i; place = p }
-
+    -- sentence i at each place
     abbrev marksFor : ℕ → List Mark
     marksFor i = map (markFor i) (from 0 (length (x .places)))
 
@@ -142,12 +140,7 @@ module _ (x : Items) where
           record { good = λ e. record { same = s .good e }; bad = λ e. let (m, d, w) = s .bad e in record { moment = m; there = d; differs = w } }
 
       row-told : i < length (x .sentences) → Sorted (Right x θ) (Wrong x θ) (markRight x θ) (marksFor i)
-      row-told l =
-          told-all
-          (has-all (marksFor i)
-          (λ k m.
-          let (p, h, e) = Memᴰ·of-map (markFor i) (from 0 (length (x .places))) m in
-          subst (λ k. Sorts (markRight x θ k) (Right x θ k) (Wrong x θ k)) e (mark-tells l p (has-below (length (x .places)) p .0 h))))
+      row-told l = told-all (all-row i (length (x .places)) .1 (mark-tells l))
 
       -- so those of one sentence more are
       right-more : All (Right x θ) (marksFor i) → RightBelow x θ (suc i)
@@ -157,7 +150,7 @@ module _ (x : Items) where
             | yes w ↦ b j w m
             | no w ↦
                 let e : i ≡ j = omega arith in
-                rw e at (all-has a (Memᴰ·map (markFor i) (has-below (length (x .places)) p .1 (in-plan x (f .laid) c m))) .same m refl)
+                rw e at (all-row i (length (x .places)) .0 a p (in-plan x (f .laid) c m) .same m refl)
           ]
 
     -- the n sentences from i on

@@ -1,0 +1,10 @@
+pub mod Bits
+pub mod Marks
+pub mod Unlooked
+pub mod Held
+pub mod Turns
+pub mod Filling
+pub mod Given
+pub mod Checks
+pub mod Theorems
+pub mod Examples
