@@ -1,5 +1,4 @@
-// A guard over rounds, for those on ways and those of sentences alike, the first place at which a sentence of a guard is marked wrongly, and what a search
-// found.
+// A guard over rounds, for those on ways and those of sentences alike, the row of a sentence of a guard, and what a search found.
 ghost use mathlib.Core.Path.{_≡_};
 ghost use mathlib.Core.Bool.{cond};
 ghost use Prim.Native.Nat.{_+_, _<_, _^_};
@@ -11,7 +10,7 @@ ghost use Rattle.collector.specs.Sound.{Sound};
 ghost use Rattle.meaning.specs.Run.{guardAt};
 ghost use Rattle.meaning.specs.Judged.{startOf};
 ghost use Rattle.verdict.specs.Verdict.{guardThrough};
-ghost use Rattle.rounds.specs.Wrong.{wrongIn};
+ghost use Rattle.rounds.specs.Rows.{rowOf};
 ghost use Rattle.tables.specs.Tables.{tablesOf};
 ghost use Rattle.guards.specs.GuardSums.{SumsFit, throughBy};
 use collector::Case;
@@ -19,6 +18,7 @@ use counters::Counters;
 use items::Guard;
 use items::PlaceNo;
 use kinds::PerCounter;
+use rounds::Row;
 use tables::Tables;
 use verdict::Rounds;
 use verdict::Throughout;
@@ -76,16 +76,18 @@ fn guard_at(c: Case, g: u8) -> Guard
     }
 }
 
-// The first place at which sentence i, guard g, is marked wrongly.
-pub fn guard_wrong(c: Case, t: Tables, i: u8, g: u8) -> usize
+// The row of sentence i, guard g.
+pub fn guard_row(c: Case, t: Tables, i: u8, g: u8) -> Row
     requires { ⌜ (Sound c) × (t ≡ tablesOf (itemsOf c)) × (Closed (itemsOf c)) ⌝ }
-    ensures { λ r. ⌜ r ≡ wrongIn (itemsOf c) i (guardThrough (itemsOf c) (startOf (itemsOf c)) (guardAt (itemsOf c .guards) g)) ⌝ }
+    ensures { λ r. ⌜ r ≡ rowOf (itemsOf c) i (guardThrough (itemsOf c) (startOf (itemsOf c)) (guardAt (itemsOf c .guards) g)) ⌝ }
 {
     let places = c.places;
     let guard = guard_at(c, g);
     let firsts = t.firsts;
     let drifts = c.drifts;
     let bases = t.bases;
+    let mut row = [0u8; Case::PLACES];
+    let mut off = false;
     let mut p: usize = 0;
     while p < c.count.places {
         let q = firsts.at[p] as usize;
@@ -95,11 +97,10 @@ pub fn guard_wrong(c: Case, t: Tables, i: u8, g: u8) -> usize
         let drift = drifts[q];
         let place = places[p];
         let t = guard_through(guard, base, drift, false, rounds::rounds_of(mark));
-        if rounds::is_right(t, rounds::bit(place.marks, i)) {
-            p = p + 1;
-        } else {
-            return p;
-        }
+        let code = rounds::code(t);
+        row[p] = code;
+        off = rounds::off_by(off, code, rounds::bit(place.marks, i));
+        p = p + 1;
     }
-    p
+    Row { at: row, off: off }
 }

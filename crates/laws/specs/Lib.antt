@@ -11,5 +11,6 @@ pub mod Members
 pub mod Gathered
 pub mod Parts
 pub mod Tab
+pub mod Ready
 pub mod Lowest
 pub mod Down

@@ -14,7 +14,7 @@ tab zero i g = []
 tab (suc n) i g = g i ∷ tab n (i + 1) g
 
 -- the first k of the n elements are done, and the rest would be g
-pub record Filled {A : Type 0} (g : ℕ → A) (n : ℕ) (xs : List A) (k : ℕ) : Type 0 where
+pub record FilledTo {A : Type 0} (g : ℕ → A) (n : ℕ) (xs : List A) (k : ℕ) : Type 0 where
   pub long : length xs ≡ n
   pub done : tab n 0 g ≡ take k xs ++ tab (n - k) k g
 
@@ -74,12 +74,12 @@ tab-again {A} d r n l =
     ext-getD d (tab n 0 g) r (length-tab g n 0 ∙ sym l) (λ j h. entry g n j d (rw (length-tab g n 0) at h))
 
 module _ {A : Type 0} (g : ℕ → A) (n : ℕ) where
-  pub fill-none : (xs : List A) → length xs ≡ n → Filled g n xs 0
+  pub fill-none : (xs : List A) → length xs ≡ n → FilledTo g n xs 0
   fill-none xs l =
       let e : n ≡ n - 0 = omega arith in
       record { long = l; done = ap (λ m. tab m 0 g) e }
 
-  pub fill-more : (xs : List A) (k : ℕ) → k < n → Filled g n xs k → Filled g n (set xs k (g k)) (k + 1)
+  pub fill-more : (xs : List A) (k : ℕ) → k < n → FilledTo g n xs k → FilledTo g n (set xs k (g k)) (k + 1)
   fill-more xs k h f =
       let e : n - k ≡ suc (n - (k + 1)) = omega arith in
       let t : take (k + 1) (set xs k (g k)) ≡ take k xs ++ (g k ∷ []) = rw add-one (take-suc-set xs k (g k) (omega arith)) in
@@ -88,7 +88,7 @@ module _ {A : Type 0} (g : ℕ → A) (n : ℕ) where
         done = f .done ∙ ap (λ m. take k xs ++ tab m k g) e ∙ sym (append-snoc (take k xs) (g k) (tab (n - (k + 1)) (k + 1) g)) ∙ rw t refl;
       }
 
-  pub fill-all : (xs : List A) (k : ℕ) → n ≤ k → Filled g n xs k → xs ≡ tab n 0 g
+  pub fill-all : (xs : List A) (k : ℕ) → n ≤ k → FilledTo g n xs k → xs ≡ tab n 0 g
   fill-all xs k h f =
       let e : n - k ≡ 0 = omega arith in
       sym (f .done ∙ ap (λ m. take k xs ++ tab m k g) e ∙ append-nil (take k xs) ∙ take-all k xs (omega arith))

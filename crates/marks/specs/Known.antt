@@ -21,12 +21,12 @@ use Rattle.meaning.specs.Judged.{startOf, stateAt, marked}
 use Rattle.meaning_laws.specs.Given.{by-end, facts}
 use Rattle.verdict.specs.Rounds.{roundsOf, flag}
 use Rattle.verdict.specs.Verdict.{nextBy, nextThrough, formThrough}
-use Rattle.rounds.specs.Wrong.{wrongIn}
+use Rattle.rounds.specs.Rows.{rowOf}
 use Rattle.tables.specs.declared.Firsts.{Firsts}
 use Rattle.tables.specs.Tables.{firstsOf}
 use Rattle.tables.specs.Known.{first-is}
 use Rattle.tables.specs.Reads.{at-states, at-sentences, at-places}
-use Rattle.marks.specs.Wrong.{formAt, wrongOf, sameAlways, simpleThrough}
+use Rattle.marks.specs.Wrong.{formAt, sentenceRow, sameAlways, simpleThrough}
 use Rattle.marks.specs.Ranged.{Ranged, ranged}
 
 -- ---- whether the next moment's sentence holds, at place p
@@ -79,9 +79,9 @@ module _ {c : Case} (s : Sound c) (i : ℕ) {φ : Form} (e : getD (c .sentences)
   pub form-ranged : Ranged φ
   form-ranged = subst Ranged form-is (ranged s i)
 
-  pub wrong-by : wrongIn (itemsOf c) i (formThrough (itemsOf c) (startOf (itemsOf c)) φ) ≡ wrongOf (itemsOf c) i
-  wrong-by = ap (λ ψ. wrongIn (itemsOf c) i (formThrough (itemsOf c) (startOf (itemsOf c)) ψ)) (sym form-is)
+  pub row-by : rowOf (itemsOf c) i (formThrough (itemsOf c) (startOf (itemsOf c)) φ) ≡ sentenceRow (itemsOf c) i
+  row-by = ap (λ ψ. rowOf (itemsOf c) i (formThrough (itemsOf c) (startOf (itemsOf c)) ψ)) (sym form-is)
 
   pub simple-by : simpleThrough (itemsOf c) φ ≡ formThrough (itemsOf c) (startOf (itemsOf c)) φ
-      → wrongIn (itemsOf c) i (simpleThrough (itemsOf c) (getD (c .sentences) i (noItem kind.Sentence) .form)) ≡ wrongOf (itemsOf c) i
-  simple-by k = ap (λ ψ. wrongIn (itemsOf c) i (simpleThrough (itemsOf c) ψ)) e ∙ ap (wrongIn (itemsOf c) i) k ∙ wrong-by
+      → rowOf (itemsOf c) i (simpleThrough (itemsOf c) (getD (c .sentences) i (noItem kind.Sentence) .form)) ≡ sentenceRow (itemsOf c) i
+  simple-by k = ap (λ ψ. rowOf (itemsOf c) i (simpleThrough (itemsOf c) ψ)) e ∙ ap (rowOf (itemsOf c) i) k ∙ row-by

@@ -1,4 +1,5 @@
 pub mod Last
 pub mod Bits
-pub mod Wrong
+pub mod Rows
 pub mod Search
+pub mod Codes

@@ -1,9 +1,9 @@
--- The search for the first number that fails a test, by a loop that counts up to n, and by one that counts down from n. Assumes nothing.
-use mathlib.Core.Path.{_≡_, _∙_, sym, ap}
+-- The search for the first number that fails a test, by a loop that counts up to n. Assumes nothing.
+use mathlib.Core.Path.{_≡_, refl, _∙_, ap}
 use mathlib.Core.Bool.{Bool, true, false, cond}
-use Prim.Native.Nat.{ℕ, suc, _+_, _-_, _≤_, _<_}
+use Prim.Native.Nat.{ℕ, zero, suc, _+_, _-_, _≤_, _<_}
 use native.Mathlib.Omega.{arith}
-use Rattle.rounds.specs.Wrong.{firstOff}
+use Rattle.rounds.specs.Rows.{firstOff}
 
 module _ (ok : ℕ → Bool) (n : ℕ) where
   -- what is found from p on
@@ -17,7 +17,6 @@ module _ (ok : ℕ → Bool) (n : ℕ) where
       let e : suc p ≡ p + 1 = omega arith in
       ap (firstOff ok p) d ∙ ap (λ q. cond (ok p) (firstOff ok q (n - (p + 1))) p) e
 
-  -- upwards: what is found is found from p on
   pub off-start : firstOff ok 0 n ≡ offFrom 0
   off-start = let e : n ≡ n - 0 = omega arith in ap (firstOff ok 0) e
 
@@ -31,12 +30,14 @@ module _ (ok : ℕ → Bool) (n : ℕ) where
   unfolding firstOff
   off-end p h = let e : n - p ≡ 0 = omega arith in ap (firstOff ok p) e
 
-  -- downwards: what is found from p on is known
-  pub down-start : n ≡ offFrom n
-  down-start = sym (off-end n (omega arith))
+-- tests that are the same below n
+pub off-same : (f g : ℕ → Bool) (p d : ℕ) → ((q : ℕ) → p ≤ q → q < p + d → f q ≡ g q) → firstOff f p d ≡ firstOff g p d
+unfolding firstOff
+off-same f g p zero h = refl
+off-same f g p (suc d) h = rw (h p (omega arith) (omega arith), off-same f g (suc p) d (λ q a b. h q (omega arith) (omega arith)))
 
-  pub down-off : (p : ℕ) → 0 < p → p ≤ n → ok (p - 1) ≡ false → p - 1 ≡ offFrom (p - 1)
-  down-off p h k t = sym (off-here (p - 1) (omega arith) t)
-
-  pub down-on : (p : ℕ) → 0 < p → p ≤ n → ok (p - 1) ≡ true → offFrom p ≡ offFrom (p - 1)
-  down-on p h k t = let e : p ≡ (p - 1) + 1 = omega arith in ap offFrom e ∙ sym (off-later (p - 1) (omega arith) t)
+-- where all pass there is none
+pub off-none : (p d : ℕ) → firstOff (λ q. true) p d ≡ p + d
+unfolding firstOff
+off-none p zero = omega arith
+off-none p (suc d) = off-none (suc p) d ∙ omega arith

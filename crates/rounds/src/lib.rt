@@ -1,6 +1,7 @@
-// The rounds of a place, and what is true throughout them: a sum that grows by the same with each round, against a bound; and a mark against that.
+// The rounds of a place, and what is true throughout them: a sum that grows by the same with each round, against a bound; a row of that over the places, and
+// a mark against it.
 ghost use mathlib.Core.Path.{_≡_};
-ghost use mathlib.Core.Bool.{cond};
+ghost use mathlib.Core.Bool.{not, _||_};
 ghost use Prim.Native.Nat.{_+_, _-_, _*_, _<_, _^_};
 ghost use Rattle.laws.specs.Sizes.{size};
 ghost use Rattle.meaning.specs.Run.{stretch};
@@ -8,14 +9,22 @@ ghost use Rattle.meaning.specs.Truth.{bit};
 ghost use Rattle.verdict.specs.declared.Rounds.the-variants as rounds;
 ghost use Rattle.verdict.specs.Rounds.{roundsOf, later, flag, agree, trend, side, course, overall, through};
 ghost use Rattle.verdict.specs.Forward.{repeats};
-ghost use Rattle.verdict.specs.Verdict.{isAlways, isNever};
+ghost use Rattle.verdict.specs.Verdict.{isAlways};
 ghost use Rattle.rounds.specs.Last.{lastOf};
+ghost use Rattle.rounds.specs.Rows.{codeOf, markCode, agrees};
 use items::LoopMark;
+use items::Room;
 use verdict::Course;
 use verdict::Rounds;
 use verdict::Side;
 use verdict::Throughout;
 use verdict::Trend;
+
+// What a sentence is over the rounds of each place, as a code (0 past the places that are held), and whether its mark is another at some place.
+pub struct Row {
+    pub at: [u8; Room::PLACES],
+    pub off: bool,
+}
 
 // The number of places of a stretch.
 pub fn stretch(m: LoopMark) -> usize
@@ -129,25 +138,33 @@ pub fn is_always(t: Throughout) -> bool
     }
 }
 
-// Whether it is false throughout.
-fn is_never(t: Throughout) -> bool
-    ensures { λ r. ⌜ r ≡ isNever t ⌝ }
+// The code of what is so throughout a place.
+pub fn code(t: Throughout) -> u8
+    ensures { λ r. ⌜ r ≡ codeOf t ⌝ }
 {
     match t {
-        Throughout::Always => false,
-        Throughout::Never => true,
-        Throughout::Changes => false,
+        Throughout::Never => 0,
+        Throughout::Always => 1,
+        Throughout::Changes => 2,
     }
 }
 
-// Whether a mark is right, of a sentence that is so throughout the place.
-pub fn is_right(t: Throughout, marked: bool) -> bool
-    ensures { λ r. ⌜ r ≡ cond marked (isAlways t) (isNever t) ⌝ }
+// The code of a sentence for which a mark is right.
+pub fn mark_code(marked: bool) -> u8
+    ensures { λ r. ⌜ r ≡ markCode marked ⌝ }
 {
-    if marked {
-        return is_always(t);
+    if marked { 1 } else { 0 }
+}
+
+// Whether a row is off, where it was before this place, or the mark of the place is another than the code says.
+pub fn off_by(before: bool, code: u8, marked: bool) -> bool
+    ensures { λ r. ⌜ r ≡ (before || not (agrees code marked)) ⌝ }
+{
+    if code == mark_code(marked) {
+        before
+    } else {
+        true
     }
-    is_never(t)
 }
 
 // Bit i of a set.

@@ -1,6 +1,5 @@
--- What the code reads of a place, in the tables of judging and of its marks. Assumes nothing.
-use mathlib.Core.Path.{_≡_, refl, _∙_, ap, ap₂}
-use mathlib.Core.Bool.{Bool, cond}
+-- What the code reads of a place, in the tables of judging. Assumes nothing.
+use mathlib.Core.Path.{_≡_, refl, ap}
 use Prim.Native.Nat.{ℕ, _+_, _≤_, _<_}
 use native.Mathlib.Omega.{arith}
 use lib.ListN.{length, getD}
@@ -17,18 +16,13 @@ use Rattle.rules_laws.specs.Held.{counted}
 use Rattle.rules_laws.specs.Loops.{all-closed}
 use Rattle.meaning.specs.Run.{stretch}
 use Rattle.meaning.specs.Drift.{drift}
-use Rattle.meaning.specs.Truth.{bit}
 use Rattle.meaning.specs.Judged.{startOf}
-use Rattle.verdict.specs.declared.Throughout.{Throughout}
 use Rattle.verdict.specs.Rounds.{firstOf, loopOf, roundsOf}
 use Rattle.verdict_laws.specs.Steps.{first-le}
 use Rattle.verdict.specs.Forward.{base}
-use Rattle.verdict.specs.Verdict.{isAlways, isNever}
-use Rattle.rounds.specs.Wrong.{isRight}
 use Rattle.tables.specs.declared.Firsts.{Firsts}
 use Rattle.tables.specs.declared.Tables.{Tables}
 use Rattle.tables.specs.Tables.{firstsOf, tablesOf}
-use Rattle.tables.specs.Reads.{at-places}
 use Rattle.tables.specs.Entries.{first-at, values-at}
 use Rattle.tables.specs.Stretches.{first-below, mark-is, drift-kept, end-in}
 
@@ -71,9 +65,3 @@ pub drift-is : {c : Case} (s : Sound c) → Closed (itemsOf c) →
 drift-is {c} s k e p h d =
     let q = firstOf (itemsOf c .places) p in
     drift-kept s p (room s e p h) (first-is s e p h) d (all-closed (itemsOf c) (s .loops) k q (omega (arith, first-le (itemsOf c .places) p)))
-
--- ---- the mark of sentence i at place p, against what the sentence is by f
-
-pub right-is : {c : Case} (s : Sound c) (p i : ℕ) (f : ℕ → Throughout) {b : Bool} {t : Throughout}
-    → b ≡ bit (getD (c .places) p (noItem kind.Place) .marks) i → t ≡ f p → cond b (isAlways t) (isNever t) ≡ isRight (itemsOf c) i f p
-right-is s p i f k r = ap₂ (λ (b : Bool) (t : Throughout). cond b (isAlways t) (isNever t)) (k ∙ ap (λ (y : Place). bit (y .marks) i) (at-places s p)) r

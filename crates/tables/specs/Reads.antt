@@ -20,6 +20,8 @@ use Rattle.collector.specs.Cases.{arraysOf, itemsOf}
 use Rattle.collector.specs.Sound.{Sound}
 use Rattle.rules_laws.specs.Held.{padded, long}
 use Rattle.meaning.specs.Run.{placeAt, guardAt}
+use Rattle.meaning.specs.Truth.{bit}
+use Rattle.meaning.specs.Judged.{marked}
 
 -- the first n of these places and no other items
 abbrev pub placesOnly : List Place → ℕ → Items
@@ -51,3 +53,6 @@ module _ {c : Case} (s : Sound c) where
 
   pub at-places : (p : ℕ) → getD (c .places) p (noItem kind.Place) ≡ placeAt (itemsOf c .places) p
   at-places = at-items kind.Place
+
+  pub mark-read : (i p : ℕ) → bit (getD (c .places) p (noItem kind.Place) .marks) i ≡ marked (itemsOf c) i p
+  mark-read i p = ap (λ (y : Place). bit (y .marks) i) (at-places p)

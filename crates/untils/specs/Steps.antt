@@ -1,18 +1,10 @@
--- The loop that fills the table of an until's steps, place by place: past the places that are held nothing is marked, so nothing is left to do there.
+-- What fills the table of an until's steps, place by place: past the places that are held nothing is marked, so nothing is left to do there.
 -- Assumes nothing.
-use mathlib.Core.Path.{_≡_, refl, sym, _∙_, ap}
-use mathlib.Core.List.{List}
-use mathlib.Core.Bool.{Bool, true, false}
-use Prim.Native.Nat.{ℕ, _+_, _≤_, _<_}
-use native.Mathlib.Decide.{decLt}
-use native.Mathlib.Omega.{arith}
-use lib.Dec.{eqb}
+use mathlib.Core.Path.{_≡_, _∙_, ap}
+use Prim.Native.Nat.{ℕ, _≤_}
 use lib.IntN.{ℤ, pos}
-use lib.ListN.{length, set, getD, replicate, length-set, length-replicate}
-use lib.Seq.{getD-set-same, getD-set-other, ext-getD}
-use borrow.Author.Tests.{eqb-true, eqb-false}
-use Rattle.laws.specs.Lists.{at-left}
-use Rattle.laws.specs.Tab.{tab, length-tab, entry}
+use lib.ListN.{length}
+use Rattle.laws.specs.Tab.{entry}
 use Rattle.kinds.specs.declared.Kind.the-variants as kind
 use Rattle.items.specs.declared.Term.{Term}
 use Rattle.items.specs.Lists.{Items, roomOf}
@@ -23,28 +15,6 @@ use Rattle.maxplus.specs.declared.Steps.{Steps}
 use Rattle.maxplus.specs.Numbers.{none, entryAt, choiceBy, stopOf, goOf}
 use Rattle.maxplus.specs.Shows.{StepsAre}
 use Rattle.untils.specs.Sums.{stepsOf}
-
--- of n entries, those below k are done, and there is nothing to do from m on
-pub record Ready {A : Type 0} (g : ℕ → A) (n m : ℕ) (z : A) (xs : List A) (k : ℕ) : Type 0 where
-  pub long : length xs ≡ n
-  pub done : (i : ℕ) → (k ≤ i → m ≤ i) → getD xs i z ≡ g i
-
-module _ {A : Type 0} {g : ℕ → A} {n m : ℕ} {z : A} where
-  pub ready-none : ((i : ℕ) → m ≤ i → g i ≡ z) → Ready g n m z (replicate n z) 0
-  ready-none past = record { long = length-replicate n z; done = λ i h. at-left z n i ∙ sym (past i (h (omega arith))) }
-
-  pub ready-more : {xs : List A} {k : ℕ} {v : A} → v ≡ g k → k < n → Ready g n m z xs k → Ready g n m z (set xs k v) (k + 1)
-  ready-more {xs} {k} {v} e h r = record { long = length-set xs k v ∙ r .long; done = λ i d. by i d (eqb i k) refl }
-    where
-      by : (i : ℕ) → (k + 1 ≤ i → m ≤ i) → (t : Bool) → eqb i k ≡ t → getD (set xs k v) i z ≡ g i
-      by i d true q = rw (eqb-true i k q) (getD-set-same xs k v z (omega (arith, r .long)) ∙ e)
-      by i d false q =
-          let w : i ≡ k → ⊥ = eqb-false i k q in
-          getD-set-other xs k i v z w ∙ r .done i (λ a. d (elim (decLt k i) [ yes b ↦ omega arith | no b ↦ absurd (w (omega arith)) ]))
-
-  pub ready-all : {xs : List A} {k : ℕ} → m ≤ k → Ready g n m z xs k → xs ≡ tab n 0 g
-  ready-all {xs} h r =
-      ext-getD z xs (tab n 0 g) (r .long ∙ sym (length-tab g n 0)) (λ i a. r .done i (λ b. omega arith) ∙ sym (entry g n i z (omega (arith, r .long))))
 
 -- ---- what there is to do, and nothing past the places that are held
 

@@ -1,16 +1,17 @@
-// The first place at which an until is marked wrongly.
+// The row of an until.
 ghost use mathlib.Core.Path.{_≡_};
 ghost use Rattle.collector.specs.Cases.{itemsOf};
 ghost use Rattle.collector.specs.Sound.{Sound};
 ghost use Rattle.meaning.specs.Truth.{bit};
 ghost use Rattle.meaning.specs.Judged.{marked};
 ghost use Rattle.verdict.specs.Labels.{worth, labelOf};
-ghost use Rattle.rounds.specs.Wrong.{wrongIn};
+ghost use Rattle.rounds.specs.Rows.{rowOf};
 ghost use Rattle.tables.specs.Tables.{firstsOf};
 ghost use Rattle.untils.specs.Sums.{untilsOf, stepsOf, Mild};
 use collector::Case;
 use items::Term;
 use maxplus::Steps;
+use rounds::Row;
 use tables::Firsts;
 
 // What a term adds at a place with these marks.
@@ -54,25 +55,17 @@ fn steps_of(c: Case, a: u8, b: u8, t: Term, u: Term) -> Steps
     }
 }
 
-// The first place at which sentence i, such an until, is marked wrongly: from the last place to the first, by the best sums in its first round and in its last.
-pub fn until_wrong(
-    c: Case,
-    firsts: Firsts,
-    i: u8,
-    a: u8,
-    b: u8,
-    bound: i32,
-    t: Term,
-    u: Term,
-) -> usize
+// The row of sentence i, such an until: from the last place to the first, by the best sums in its first round and in its last.
+pub fn until_row(c: Case, firsts: Firsts, i: u8, a: u8, b: u8, bound: i32, t: Term, u: Term) -> Row
     requires { ⌜ (Sound c) × ((firsts ≡ firstsOf (itemsOf c .places)) × ((Mild t) × (Mild u))) ⌝ }
-    ensures { λ r. ⌜ r ≡ wrongIn (itemsOf c) i (untilsOf (itemsOf c) (labelOf (marked (itemsOf c)) a b t u) bound) ⌝ }
+    ensures { λ r. ⌜ r ≡ rowOf (itemsOf c) i (untilsOf (itemsOf c) (labelOf (marked (itemsOf c)) a b t u) bound) ⌝ }
 {
     let places = c.places;
     let n = c.count.places;
     let steps = steps_of(c, a, b, t, u);
     let z = bound as i64;
-    let mut wrong = n;
+    let mut row = [0u8; Case::PLACES];
+    let mut off = false;
     let mut first = maxplus::NONE;
     let mut last = maxplus::NONE;
     let mut p = n;
@@ -91,12 +84,9 @@ pub fn until_wrong(
         first = maxplus::step(stop, go, first);
         last = maxplus::step(stop, go, last);
         let here = places[p];
-        if !rounds::is_right(
-            rounds::agree(z <= first, z <= last),
-            rounds::bit(here.marks, i),
-        ) {
-            wrong = p;
-        }
+        let code = rounds::code(rounds::agree(z <= first, z <= last));
+        row[p] = code;
+        off = rounds::off_by(off, code, rounds::bit(here.marks, i));
     }
-    wrong
+    Row { at: row, off: off }
 }

@@ -9,14 +9,14 @@ use mir.Syntax.{w64}
 use mir.Val.{toZ, ofZ}
 use mir.Facts.{toZ-ofZ}
 use Rattle.laws.specs.Sizes.{size, times-fits, more-fits, more-read}
-use Rattle.laws.specs.Tab.{Filled, fill-none, fill-more, fill-all}
+use Rattle.laws.specs.Tab.{FilledTo, fill-none, fill-more, fill-all}
 use Rattle.kinds.specs.Kinds.{counters}
 use Rattle.counters.specs.Vectors.{valueAt, vec}
 use Rattle.counters.proofs.more.Statement.{statement}
 use Rattle.counters.proofs.more.Tie as tie
 
 abbrev Inv-loop : tie.InvT-loop
-Inv-loop n x y each₀ j₀ each j = Filled (λ i. getD x i (pos 0) +ℤ toZ w64 n *ℤ getD y i (pos 0)) counters each j
+Inv-loop n x y each₀ j₀ each j = FilledTo (λ i. getD x i (pos 0) +ℤ toZ w64 n *ℤ getD y i (pos 0)) counters each j
 
 abbrev μ-loop : tie.MeasureT-loop
 μ-loop n x y each₀ j₀ each j = counters - j

@@ -10,7 +10,7 @@ use mir.Val.{SFits, toZ, ofZ}
 use mir.Facts.{toZ-ofZ, sfits-widen}
 use Rattle.laws.specs.Members.{below-next}
 use Rattle.laws.specs.Sizes.{size, add-fits, add-read, fits-size}
-use Rattle.laws.specs.Tab.{Filled, fill-none, fill-more, fill-all}
+use Rattle.laws.specs.Tab.{FilledTo, fill-none, fill-more, fill-all}
 use Rattle.kinds.specs.Kinds.{counters}
 use Rattle.counters.specs.Vectors.{valueAt, numberAt}
 use Rattle.counters.proofs.plus.Statement.{statement}
@@ -18,7 +18,7 @@ use Rattle.counters.proofs.plus.Tie as tie
 
 abbrev Inv-loop : tie.InvT-loop
 Inv-loop x y each₀ j₀ each j =
-    Filled (λ i. getD x i (pos 0) +ℤ getD y i (pos 0)) counters each j × ((i : ℕ) → i < j → size (getD y i (pos 0)) ≤ 2 ^ 15)
+    FilledTo (λ i. getD x i (pos 0) +ℤ getD y i (pos 0)) counters each j × ((i : ℕ) → i < j → size (getD y i (pos 0)) ≤ 2 ^ 15)
 
 abbrev μ-loop : tie.MeasureT-loop
 μ-loop x y each₀ j₀ each j = counters - j

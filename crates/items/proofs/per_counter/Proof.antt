@@ -8,7 +8,7 @@ use lib.IntN.{ℤ}
 use mir.Syntax.{w16}
 use mir.Val.{SFits, toZ, ofZ}
 use mir.Facts.{toZ-ofZ}
-use Rattle.laws.specs.Tab.{Filled, fill-none, fill-more, fill-all}
+use Rattle.laws.specs.Tab.{FilledTo, fill-none, fill-more, fill-all}
 use Rattle.record.specs.declared.Field.{Field}
 use Rattle.record.specs.Layout.{at}
 use Rattle.record.proofs.At.{at-is}
@@ -22,7 +22,7 @@ abbrev each : List Field → ℕ → ℕ → ℤ
 each fields from k = shortOf (integerOf (at fields (from + k)))
 
 abbrev Inv-loop : tie.InvT-loop
-Inv-loop from fields xs₀ j₀ xs j = Filled (each fields from) counters xs j
+Inv-loop from fields xs₀ j₀ xs j = FilledTo (each fields from) counters xs j
 
 abbrev μ-loop : tie.MeasureT-loop
 μ-loop from fields xs₀ j₀ xs j = counters - j

@@ -8,7 +8,7 @@ use lib.IntN.{ℤ}
 use mir.Syntax.{w32, w64}
 use mir.Val.{SFits, toZ, ofZ}
 use mir.Facts.{toZ-ofZ, sfits-widen}
-use Rattle.laws.specs.Tab.{Filled, fill-none, fill-more, fill-all}
+use Rattle.laws.specs.Tab.{FilledTo, fill-none, fill-more, fill-all}
 use Rattle.record.specs.declared.Field.{Field}
 use Rattle.record.specs.Layout.{at}
 use Rattle.kinds.specs.Kinds.{counters}
@@ -21,7 +21,7 @@ abbrev weight : List Field → ℕ → ℤ
 weight r k = integerOf (at r (1 + k))
 
 abbrev Inv-loop : tie.InvT-loop
-Inv-loop row xs₀ j₀ xs j = Filled (weight (row .fields)) counters xs j
+Inv-loop row xs₀ j₀ xs j = FilledTo (weight (row .fields)) counters xs j
 
 abbrev μ-loop : tie.MeasureT-loop
 μ-loop row xs₀ j₀ xs j = counters - j

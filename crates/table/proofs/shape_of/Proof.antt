@@ -3,7 +3,7 @@ use borrow.Author.Needs.{needs}
 use mathlib.Core.Path.{refl}
 use Prim.Native.Nat.{ℕ, suc, _-_}
 use native.Mathlib.Omega.{arith}
-use Rattle.laws.specs.Tab.{Filled, fill-none, fill-more, fill-all}
+use Rattle.laws.specs.Tab.{FilledTo, fill-none, fill-more, fill-all}
 use Rattle.record.specs.Layout.{fields, at}
 use Rattle.kinds.specs.Contents.{flagOf}
 use Rattle.table.specs.Table.{shapeOf}
@@ -11,7 +11,7 @@ use Rattle.table.proofs.shape_of.Statement.{statement}
 use Rattle.table.proofs.shape_of.Tie as tie
 
 abbrev Inv-loop : tie.InvT-loop
-Inv-loop kind row first filled₀ k₀ filled k = Filled (λ (i : ℕ). flagOf (at row (suc i))) fields filled k
+Inv-loop kind row first filled₀ k₀ filled k = FilledTo (λ (i : ℕ). flagOf (at row (suc i))) fields filled k
 
 abbrev μ-loop : tie.MeasureT-loop
 μ-loop kind row first filled₀ k₀ filled k = fields - k

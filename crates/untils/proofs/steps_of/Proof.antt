@@ -8,6 +8,7 @@ use lib.IntN.{ℤ, pos, _+ℤ_}
 use mir.Syntax.{w16, w64}
 use mir.Val.{SFits, toZ, ofZ}
 use mir.Facts.{toZ-ofZ, sfits-widen}
+use Rattle.laws.specs.Ready.{Ready, ready-none, ready-more, ready-all}
 use Rattle.laws.specs.Sizes.{size, add-fits, add-read, fits-size}
 use Rattle.kinds.specs.declared.Kind.the-variants as kind
 use Rattle.items.specs.declared.Place.{Place}
@@ -22,7 +23,7 @@ use Rattle.maxplus.specs.declared.Steps.{Steps}
 use Rattle.maxplus.specs.Numbers.{none, choiceBy}
 use Rattle.tables.specs.Reads.{at-places}
 use borrow.Author.Needs.{needs, sfits-of}
-use Rattle.untils.specs.Steps.{Ready, ready-none, ready-more, ready-all, stopAt, goAt, stop-past, go-past}
+use Rattle.untils.specs.Steps.{stopAt, goAt, stop-past, go-past}
 use Rattle.untils.proofs.steps_of.Statement.{statement}
 use Rattle.untils.proofs.steps_of.Tie as tie
 

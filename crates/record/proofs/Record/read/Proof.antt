@@ -5,7 +5,7 @@ use Prim.Native.Nat.{ℕ, suc, _+_, _-_, _*_}
 use native.Mathlib.Nat.{add-sub-cancel-left}
 use native.Mathlib.Omega.{arith}
 use lib.ListN.{take, drop}
-use Rattle.laws.specs.Tab.{Filled, fill-none, fill-more, fill-all}
+use Rattle.laws.specs.Tab.{FilledTo, fill-none, fill-more, fill-all}
 use Rattle.record.specs.declared.Field.{Field}
 use Rattle.record.specs.Spelling.{contentOf}
 use Rattle.record.specs.Layout.{width, fields as count, fieldAt, recordOf}
@@ -13,7 +13,7 @@ use Rattle.record.proofs.Record.read.Statement.{statement}
 use Rattle.record.proofs.Record.read.Tie as tie
 
 abbrev Inv-loop : tie.InvT-loop
-Inv-loop bytes fields₀ k₀ fields k = Filled (λ (i : ℕ). fieldAt bytes (suc i)) count fields k
+Inv-loop bytes fields₀ k₀ fields k = FilledTo (λ (i : ℕ). fieldAt bytes (suc i)) count fields k
 
 abbrev μ-loop : tie.MeasureT-loop
 μ-loop bytes fields₀ k₀ fields k = count - k

@@ -1,36 +1,32 @@
--- The loop goes from the last place to the first: out tells whether the sentence is marked at place p, and wrong is what is found from there on.
+-- The loop goes from the last place to the first: out tells whether the sentence is marked at place p, and the row is done from there on.
 -- Assumes nothing.
 use borrow.Author.Needs.{needs}
-use borrow.Author.Tests.{not-true, not-false}
 use mathlib.Core.Path.{_≡_, _∙_, sym, ap}
-use mathlib.Core.Logic.{⊎-elim}
 use Prim.Native.Nat.{ℕ, suc, _-_, _≤_, _<_}
 use native.Mathlib.Omega.{arith}
 use lib.ListN.{length, getD}
 use Rattle.kinds.specs.declared.Kind.the-variants as kind
-use Rattle.items.specs.declared.Place.{Place}
 use Rattle.collector.specs.Cases.{itemsOf}
 use Rattle.items.specs.Lists.{roomOf}
 use Rattle.rules_laws.specs.Held.{counted}
-use Rattle.meaning.specs.Truth.{bit}
 use Rattle.meaning.specs.Judged.{marked}
 use Rattle.verdict.specs.Verdict.{nextThrough}
-use Rattle.tables.specs.Reads.{placesOnly, at-places}
-use Rattle.rounds.specs.Wrong.{isRight}
-use Rattle.rounds.specs.Search.{offFrom, off-start, down-start, down-off, down-on}
+use Rattle.tables.specs.Reads.{placesOnly, mark-read}
+use Rattle.rounds.specs.Rows.{codeOf}
+use Rattle.rounds.specs.Codes.{DownTo, down-none, down-more, down-all}
 use Rattle.rounds.specs.Bits.{unmarked}
-use Rattle.tables.specs.Known.{first-within, end-within, right-is}
+use Rattle.tables.specs.Known.{first-within, end-within}
 use Rattle.marks.specs.Known.{next-is}
-use Rattle.marks.proofs.next_wrong.Statement.{statement}
-use Rattle.marks.proofs.next_wrong.Tie as tie
+use Rattle.marks.proofs.next_row.Statement.{statement}
+use Rattle.marks.proofs.next_row.Tie as tie
 
 abbrev Inv-loop : tie.InvT-loop
-Inv-loop i a firsts places n wrong₀ out₀ p₀ wrong out p =
+Inv-loop i a firsts places n row₀ off₀ out₀ p₀ row off out p =
     let x = placesOnly places n in
-    (p ≤ n) × ((out ≡ marked x a p) × (wrong ≡ offFrom (isRight x i (nextThrough x a)) n p))
+    (p ≤ n) × ((out ≡ marked x a p) × DownTo x i (nextThrough x a) row off p)
 
 abbrev μ-loop : tie.MeasureT-loop
-μ-loop i a firsts places n wrong₀ out₀ p₀ wrong out p = p
+μ-loop i a firsts places n row₀ off₀ out₀ p₀ row off out p = p
 
 module _ (c : tie.In-loop Inv-loop μ-loop) where
   abbrev t : tie.Start Inv-loop μ-loop
@@ -54,7 +50,8 @@ loop-holds c =
     let t = c .before in
     let x = itemsOf (t .args .c) in
     let n = t .args .c .count .places in
-    (omega arith, (sym (unmarked x (t .args .a) n (omega (arith, counted (t .args .c) (t .pre .0) kind.Place))), down-start _ n))
+    let k = counted (t .args .c) (t .pre .0) kind.Place in
+    (omega arith, (sym (unmarked x (t .args .a) n (omega (arith, k))), down-none x (t .args .i) (nextThrough x (t .args .a)) (omega (arith, k))))
 
 sub-p : tie.Need-sub-p Inv-loop μ-loop
 sub-p c = omega arith
@@ -85,11 +82,14 @@ next-through-requires c κs =
     let l = c .before .before .before .before in
     (inside l, end-within (t l .pre .0) (t l .pre .1) (p l) (held l))
 
+code-requires : tie.Need-code-requires Inv-loop μ-loop
+code-requires c κs = search needs
+
 bit-requires-2 : tie.Need-bit-requires-2 Inv-loop μ-loop
 bit-requires-2 c κs = search needs
 
-is-right-requires : tie.Need-is-right-requires Inv-loop μ-loop
-is-right-requires c κs = search needs
+off-by-requires : tie.Need-off-by-requires Inv-loop μ-loop
+off-by-requires c κs = search needs
 
 bit-requires-3 : tie.Need-bit-requires-3 Inv-loop μ-loop
 bit-requires-3 c κs = search needs
@@ -97,50 +97,49 @@ bit-requires-3 c κs = search needs
 loop-less : tie.Need-loop-less Inv-loop μ-loop
 loop-less c = omega arith
 
--- the test made is that of place p
-test : (c : tie.After-is-right Inv-loop μ-loop) →
-    let l = c .before .before .before .before .before .before .before in
-    let x = itemsOf (t l .args .c) in
-    c .is-right .result ≡ isRight x (t l .args .i) (nextThrough x (t l .args .a)) (p l)
-test c =
-    let l = c .before .before .before .before .before .before .before in
-    let m = l .before .loop in
-    let s = t l .pre .0 in
-    let a = t l .args .a in
-    let x = itemsOf (t l .args .c) in
-    let e : m .p ≡ suc (p l) = omega arith in
-    let d = c .before .before in
-    c .is-right .ensures
-    ∙ right-is s (p l) (t l .args .i) (nextThrough x a) (c .before .bit2 .ensures)
-    (d .next-through .ensures ∙ next-is s (t l .pre .1) (p l) (held l) a (d .before .bit .ensures) (m .inv .1 .0 ∙ ap (marked x a) e))
+-- what is found is the code of place p
+module _ (c : tie.After-code Inv-loop μ-loop) where
+  abbrev l : tie.In-loop Inv-loop μ-loop
+  l = c .before .before .before .before .before .before
+
+  is : c .code .result ≡ codeOf (nextThrough (itemsOf (t l .args .c)) (t l .args .a) (p l))
+  is =
+      let m = l .before .loop in
+      let a = t l .args .a in
+      let e : m .p ≡ suc (p l) = omega arith in
+      let d = c .before in
+      c .code .ensures
+      ∙ ap codeOf
+      (d .next-through .ensures ∙ next-is (t l .pre .0) (t l .pre .1) (p l) (held l) a (d .before .bit .ensures) (m .inv .1 .0 ∙ ap (marked (itemsOf (t l .args .c)) a) e))
+
+array-write-row : tie.Need-array-write-row Inv-loop μ-loop
+array-write-row c = inside (l c)
 
 loop-again : tie.Need-loop-again Inv-loop μ-loop
 loop-again c =
-    let r = c .before .before in
-    let l = r .before .before .before .before .before .before .before in
-    let m = l .before .loop in
-    let x = itemsOf (t l .args .c) in
-    let ok = isRight x (t l .args .i) (nextThrough x (t l .args .a)) in
-    let n = t l .args .c .count .places in (
+    let r = c .before .before .before in
+    let k = l r in
+    let m = k .before .loop in
+    let s = t k .pre .0 in
+    let x = itemsOf (t k .args .c) in (
       omega arith,
       (
-        c .bit3 .ensures ∙ ap (λ (y : Place). bit (y .marks) (t l .args .a)) (at-places (t l .pre .0) (p l)),
-        ⊎-elim
-            (λ y. y .1 ∙ down-off ok n (m .p) (omega arith) (m .inv .0) (sym (test r) ∙ not-true _ (y .0 .taken)))
-            (λ y. y .1 ∙ m .inv .1 .1 ∙ down-on ok n (m .p) (omega arith) (m .inv .0) (sym (test r) ∙ not-false _ (y .0 .left)))
-            (c .before .if1 .came),
+        c .bit3 .ensures ∙ mark-read s (t k .args .a) (p k),
+        down-more x (t k .args .i) (nextThrough x (t k .args .a)) (m .off) (omega arith) (omega (arith, held k)) (omega (arith, inside k)) (is r)
+            (c .before .before .bit2 .ensures ∙ mark-read s (t k .args .i) (p k)) (c .before .off-by .ensures) (m .inv .1 .1),
       ),
     )
 
 returns : tie.Need-returns Inv-loop μ-loop
 returns c =
-    let l = c .before in
-    let e : l .loop .p ≡ 0 = omega arith in
-    let k = counted (l .before .before .args .c) (l .before .before .pre .0) kind.Place in
-    l .loop .inv .1 .1 ∙ rw (e, k) (sym (off-start _ _))
+    let m = c .before in
+    let t = m .before .before in
+    let x = itemsOf (t .args .c) in
+    let e : m .loop .p ≡ 0 = omega arith in
+    down-all x (t .args .i) (nextThrough x (t .args .a)) (rw e at (m .loop .inv .1 .1))
 
-pub next-wrong-spec : {M : Type 1} → statement M
-next-wrong-spec =
+pub next-row-spec : {M : Type 1} → statement M
+next-row-spec =
     tie.close
     (tie.spec
     Inv-loop
@@ -155,8 +154,10 @@ next-wrong-spec =
     array-copy-out-here
     bit-requires
     next-through-requires
+    code-requires
+    array-write-row
     bit-requires-2
-    is-right-requires
+    off-by-requires
     bit-requires-3
     loop-less
     loop-again

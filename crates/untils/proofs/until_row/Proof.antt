@@ -1,7 +1,7 @@
--- From the last place that is held to the first: whatever labels the steps are of, first and last show their best sums at place p, and the first place from
--- p on that is marked wrongly is known. (The terms of the until and the case are no longer at hand in the loop: its invariant is about all such labels, and
--- about the places alone.) Assumes nothing.
-use mathlib.Core.Path.{_≡_, sym, _∙_, ap, ap₂}
+-- From the last place that is held to the first: whatever labels the steps are of, first and last show their best sums at place p, and the row is done from
+-- p on. (The terms of the until and the case are no longer at hand in the loop: its invariant is about all such labels, and about the places alone.)
+-- Assumes nothing.
+use mathlib.Core.Path.{_≡_, _∙_, ap, ap₂}
 use mathlib.Core.Logic.{⊎-elim}
 use Prim.Native.Nat.{ℕ, _-_, _≤_, _<_}
 use native.Mathlib.Omega.{arith}
@@ -21,35 +21,33 @@ use Rattle.verdict.specs.Labels.{Label, labelOf}
 use Rattle.meaning_laws.specs.Given.{facts}
 use Rattle.meaning.specs.Judged.{marked}
 use Rattle.verdict.specs.Rounds.{firstOf, loopOf, agree}
-use Rattle.rounds.specs.Wrong.{isRight}
-use Rattle.rounds.specs.Search.{offFrom, off-start, off-end, down-off, down-on}
+use Rattle.rounds.specs.Rows.{codeOf}
+use Rattle.rounds.specs.Codes.{DownTo, down-none, down-more, down-all}
 use Rattle.maxplus.specs.declared.Ends.{Ends}
 use Rattle.maxplus.specs.Numbers.{entryAt, stepBy, aroundBy}
 use Rattle.maxplus.specs.Bounds.{Light}
 use Rattle.maxplus.specs.Shows.{StepsAre}
 use Rattle.tables.specs.Entries.{first-at}
-use Rattle.tables.specs.Known.{right-is}
-use Rattle.tables.specs.Reads.{placesOnly}
+use Rattle.tables.specs.Reads.{placesOnly, mark-read}
 use Rattle.tables.specs.Stretches.{first-below, mark-is, end-in}
 use borrow.Author.Needs.{needs, sfits-of}
-use borrow.Author.Tests.{not-true, not-false}
 use Rattle.untils.specs.Sums.{untilsOf}
 use Rattle.untils.specs.Light.{mild-light}
 use Rattle.untils.specs.Steps.{steps-are}
 use Rattle.untils.specs.Untils.{Shown, After, both-read, Turn, turn-read, turn-fits, turn-out, turn-on, turn-small, turn-step, shown-past, until-is}
-use Rattle.untils.proofs.until_wrong.Statement.{statement}
-use Rattle.untils.proofs.until_wrong.Tie as tie
+use Rattle.untils.proofs.until_row.Statement.{statement}
+use Rattle.untils.proofs.until_row.Tie as tie
 
 abbrev Inv-loop : tie.InvT-loop
-Inv-loop i a b bound firsts places n steps z wrong₀ first₀ last₀ p₀ wrong first last p =
+Inv-loop i a b bound firsts places n steps z row₀ off₀ first₀ last₀ p₀ row off first last p =
     let x = placesOnly places n in
     (p ≤ length (x .places))
     × ((l : ℕ → Label) → Light l → StepsAre l (entryAt (steps .stops)) (entryAt (steps .goes)) →
     (Shown x l p (toZ w64 first) (toZ w64 last))
-    × (wrong ≡ offFrom (isRight x i (untilsOf x l (toZ w32 bound))) (length (x .places)) p))
+    × (DownTo x i (untilsOf x l (toZ w32 bound)) row off p))
 
 abbrev μ-loop : tie.MeasureT-loop
-μ-loop i a b bound firsts places n steps z wrong₀ first₀ last₀ p₀ wrong first last p = p
+μ-loop i a b bound firsts places n steps z row₀ off₀ first₀ last₀ p₀ row off first last p = p
 
 module _ (c : tie.After-steps-of Inv-loop μ-loop) where
   abbrev t : tie.Start Inv-loop μ-loop
@@ -134,7 +132,7 @@ cast-z c = let f = c .before .before .fits .bound in rw (toZ-ofZ f) (sfits-widen
 loop-holds : tie.Need-loop-holds Inv-loop μ-loop
 loop-holds c =
     let e = count-is c in
-    (omega (arith, e), λ l light are. (shown-past (x c) l _ (omega (arith, e)), sym (off-end _ _ _ (omega (arith, e)))))
+    (omega (arith, e), λ l light are. (shown-past (x c) l _ (omega (arith, e)), down-none (x c) (t c .args .i) (untilsOf (x c) l (toZ w32 (ofZ w32 (t c .args .bound)))) (omega (arith, e))))
 
 sub-p : tie.Need-sub-p Inv-loop μ-loop
 sub-p c = omega arith
@@ -219,16 +217,13 @@ array-copy-out-here c = below (k (c .before .before .before .before))
 agree-requires : tie.Need-agree-requires Inv-loop μ-loop
 agree-requires c κs = search needs
 
-bit-requires : tie.Need-bit-requires Inv-loop μ-loop
-bit-requires c κs = search needs
-
-is-right-requires : tie.Need-is-right-requires Inv-loop μ-loop
-is-right-requires c κs = search needs
+code-requires : tie.Need-code-requires Inv-loop μ-loop
+code-requires c κs = search needs
 
 -- at the end of the turn
-module _ (c : tie.After-is-right Inv-loop μ-loop) where
+module _ (c : tie.After-code Inv-loop μ-loop) where
   abbrev n : tie.After-step2 Inv-loop μ-loop
-  n = c .before .before .before .before
+  n = c .before .before .before
 
   abbrev j : tie.Joined1 Inv-loop μ-loop
   j = n .before .before .before .before
@@ -247,52 +242,50 @@ module _ (c : tie.After-is-right Inv-loop μ-loop) where
   abbrev z : ℤ
   z = toZ w32 (ofZ w32 (t a .args .bound))
 
-  right : {l : ℕ → Label} → TurnOf (k j) l → c .is-right .result ≡ isRight (x a) (t a .args .i) (untilsOf (x a) l z) (p (k j))
-  right {l} o =
+  is : {l : ℕ → Label} → TurnOf (k j) l → c .code .result ≡ codeOf (untilsOf (x a) l z (p (k j)))
+  is {l} o =
       let f : SFits w32 z = rw (toZ-ofZ (t a .fits .bound)) (t a .fits .bound) in
       let u = toZ w64 (ofZ w64 (n .before .step .result)) in
       let v = toZ w64 (ofZ w64 (n .step2 .result)) in
-      c .is-right .ensures
-      ∙ right-is (t a .pre .0) (p (k j)) (t a .args .i) (untilsOf (x a) l z) (c .before .bit .ensures)
-      (c .before .before .agree .ensures ∙ ap (λ (y : ℤ). agree (leZ y u) (leZ y v)) (toZ-ofZ (cast-z a))
+      c .code .ensures
+      ∙ ap codeOf (c .before .agree .ensures ∙ ap (λ (y : ℤ). agree (leZ y u) (leZ y v)) (toZ-ofZ (cast-z a))
       ∙ until-is (x a) l (p (k j)) (few a) (next o) z (fits-size w32 z f))
 
+array-write-row : tie.Need-array-write-row Inv-loop μ-loop
+array-write-row c = below (k (j c))
+
+bit-requires : tie.Need-bit-requires Inv-loop μ-loop
+bit-requires c κs = search needs
+
+off-by-requires : tie.Need-off-by-requires Inv-loop μ-loop
+off-by-requires c κs = search needs
+
 loop-less : tie.Need-loop-less Inv-loop μ-loop
-loop-less c = omega (arith, k (j (c .before)) .loop-test .taken)
+loop-less c = omega (arith, k (j (c .before .before)) .loop-test .taken)
 
 loop-again : tie.Need-loop-again Inv-loop μ-loop
 loop-again c =
-    let r = c .before in
-    let y = k (j r) in (
+    let r = c .before .before in
+    let y = k (j r) in
+    let v = t (b y) in (
       omega (arith, y .before .loop .inv .0),
       λ l light are.
-          let o = turn y l light are in
-          let e = down-off _ _ (i y) (o .some) (o .held) (sym (right r o) ∙ not-true (r .is-right .result) (c .if2 .taken)) in
-          (next r o, e),
-    )
-
-loop-less-2 : tie.Need-loop-less-2 Inv-loop μ-loop
-loop-less-2 c = omega (arith, k (j (c .before)) .loop-test .taken)
-
-loop-again-2 : tie.Need-loop-again-2 Inv-loop μ-loop
-loop-again-2 c =
-    let r = c .before in
-    let y = k (j r) in (
-      omega (arith, y .before .loop .inv .0),
-      λ l light are.
-          let o = turn y l light are in
-          let e = down-on _ _ (i y) (o .some) (o .held) (sym (right r o) ∙ not-false (r .is-right .result) (c .if2 .left)) in
-          (next r o, y .before .loop .inv .1 l light are .1 ∙ e),
+          let o = turn y l light are in (
+            next r o,
+            down-more (x (b y)) (v .args .i) (untilsOf (x (b y)) l (z r)) (y .before .loop .off) (o .some) (o .held) (omega (arith, o .held, few (b y))) (is r o)
+                (c .before .bit .ensures ∙ mark-read (v .pre .0) (v .args .i) (p y)) (c .off-by .ensures) (y .before .loop .inv .1 l light are .1),
+          ),
     )
 
 returns : tie.Need-returns Inv-loop μ-loop
 returns c =
     let a = c .before .before in
     let h : c .before .loop .p ≡ 0 = omega arith in
-    rw (h, toZ-ofZ (t a .fits .bound)) at (c .before .loop .inv .1 (labels a) (light a) (are a) .1) ∙ sym (off-start _ _)
+    down-all (x a) (t a .args .i) (untilsOf (x a) (labels a) (t a .args .bound))
+    (rw (h, toZ-ofZ (t a .fits .bound)) at (c .before .loop .inv .1 (labels a) (light a) (are a) .1))
 
-pub until-wrong-spec : {M : Type 1} → statement M
-until-wrong-spec =
+pub until-row-spec : {M : Type 1} → statement M
+until-row-spec =
     tie.close
     (tie.spec
     Inv-loop
@@ -318,10 +311,10 @@ until-wrong-spec =
     mul-here
     array-copy-out-here
     agree-requires
+    code-requires
+    array-write-row
     bit-requires
-    is-right-requires
+    off-by-requires
     loop-less
     loop-again
-    loop-less-2
-    loop-again-2
     returns)

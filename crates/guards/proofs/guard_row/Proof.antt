@@ -1,6 +1,5 @@
 -- The loop goes through the places. Assumes nothing.
-use mathlib.Core.Path.{_≡_, sym, _∙_, ap}
-use mathlib.Core.Bool.{Bool}
+use mathlib.Core.Path.{_≡_, _∙_, ap}
 use mathlib.Core.List.{[]}
 use Prim.Native.Nat.{ℕ, _-_, _<_}
 use native.Mathlib.Omega.{arith}
@@ -18,35 +17,33 @@ use Rattle.verdict.specs.Rounds.{loopOf, roundsOf}
 use Rattle.verdict.specs.Verdict.{guardThrough}
 use Rattle.tables.specs.declared.Tables.{Tables}
 use Rattle.guards.specs.GuardSums.{Known}
-use Rattle.rounds.specs.Wrong.{isRight, wrongIn}
-use Rattle.rounds.specs.Search.{offFrom, off-start, off-here, off-later, off-end}
-use Rattle.tables.specs.Known.{first-within, rounds-are, base-is, drift-is, right-is}
+use Rattle.rounds.specs.Rows.{codeOf}
+use Rattle.rounds.specs.Codes.{UpTo, up-none, up-more, up-all}
+use Rattle.tables.specs.Reads.{mark-read}
+use Rattle.tables.specs.Known.{first-within, rounds-are, base-is, drift-is}
 use Rattle.guards.specs.SentenceSums.{guard-fits, guard-is}
-use Rattle.guards.proofs.guard_wrong.Statement.{statement}
-use Rattle.guards.proofs.guard_wrong.Tie as tie
+use Rattle.guards.proofs.guard_row.Statement.{statement}
+use Rattle.guards.proofs.guard_row.Tie as tie
 
 -- what guard g is over the rounds of each place
 abbrev guardOf : Items → ℕ → ℕ → Throughout
 guardOf x g = guardThrough x (startOf x) (guardAt (x .guards) g)
 
 abbrev Inv-loop : tie.InvT-loop
-Inv-loop c i g places guard firsts drifts bases p₀ p =
+Inv-loop c i g places guard firsts drifts bases row₀ off₀ p₀ row off p =
     let x = itemsOf c in
-    wrongIn x i (guardOf x g) ≡ offFrom (isRight x i (guardOf x g)) (length (x .places)) p
+    UpTo x i (guardOf x g) row off p
 
 abbrev μ-loop : tie.MeasureT-loop
-μ-loop c i g places guard firsts drifts bases p₀ p = c .count .places - p
+μ-loop c i g places guard firsts drifts bases row₀ off₀ p₀ row off p = c .count .places - p
 
--- the items, the number of places and the test
+-- the items and the number of places
 module _ (c : tie.Start Inv-loop μ-loop) where
   abbrev x : Items
   x = itemsOf (c .args .c)
 
   abbrev n : ℕ
   n = length (x .places)
-
-  abbrev ok : ℕ → Bool
-  ok = isRight x (c .args .i) (guardOf x (c .args .g))
 
   held : n ≡ c .args .c .count .places
   held = counted (c .args .c) (c .pre .0) kind.Place
@@ -72,7 +69,7 @@ guard-at-requires : tie.Need-guard-at-requires Inv-loop μ-loop
 guard-at-requires c κs = search needs
 
 loop-holds : tie.Need-loop-holds Inv-loop μ-loop
-loop-holds c = let s = c .before .before .before .before .before in off-start (ok s) (n s)
+loop-holds c = let s = c .before .before .before .before .before in up-none (x s) (s .args .i) (guardOf (x s) (s .args .g))
 
 element-copy-out-q : tie.Need-element-copy-out-q Inv-loop μ-loop
 element-copy-out-q c = room c
@@ -130,46 +127,48 @@ module _ (c : tie.After-rounds-of Inv-loop μ-loop) where
 guard-through-requires : tie.Need-guard-through-requires Inv-loop μ-loop
 guard-through-requires c κs = guard-fits (facts (t (l c) .args .c) (t (l c) .pre .0)) (known c) (rounds c) (room (l c))
 
+code-requires : tie.Need-code-requires Inv-loop μ-loop
+code-requires c κs = search needs
+
+-- what is found is the code of place p
+module _ (c : tie.After-code Inv-loop μ-loop) where
+  abbrev i : tie.Then1 Inv-loop μ-loop
+  i = l (c .before .before)
+
+  is : c .code .result ≡ codeOf (guardOf (x (t i)) (t i .args .g) (p i))
+  is =
+      c .code .ensures
+      ∙ ap codeOf (c .before .guard-through .ensures ∙ guard-is (facts (t i .args .c) (t i .pre .0)) (known (c .before .before)) (rounds (c .before .before)))
+
+array-write-row : tie.Need-array-write-row Inv-loop μ-loop
+array-write-row c = room (i c)
+
 bit-requires : tie.Need-bit-requires Inv-loop μ-loop
 bit-requires c κs = search needs
 
-is-right-requires : tie.Need-is-right-requires Inv-loop μ-loop
-is-right-requires c κs = search needs
-
--- the test made is that of place p
-module _ (c : tie.After-is-right Inv-loop μ-loop) where
-  abbrev i : tie.Then1 Inv-loop μ-loop
-  i = l (c .before .before .before)
-
-  is : c .before .before .guard-through .result ≡ guardOf (x (t i)) (t i .args .g) (p i)
-  is = c .before .before .guard-through .ensures ∙ guard-is (facts (t i .args .c) (t i .pre .0)) (known (c .before .before .before)) (rounds (c .before .before .before))
-
-  test : c .is-right .result ≡ ok (t i) (p i)
-  test = c .is-right .ensures ∙ right-is (t i .pre .0) (p i) (t i .args .i) (guardOf (x (t i)) (t i .args .g)) (c .before .bit .ensures) is
+off-by-requires : tie.Need-off-by-requires Inv-loop μ-loop
+off-by-requires c κs = search needs
 
 add-p : tie.Need-add-p Inv-loop μ-loop
-add-p c = omega (arith, room (i (c .before)))
+add-p c = omega (arith, room (i (c .before .before)))
 
 loop-less : tie.Need-loop-less Inv-loop μ-loop
-loop-less c = omega arith
+loop-less c = omega (arith, i (c .before .before) .if1 .taken)
 
 loop-again : tie.Need-loop-again Inv-loop μ-loop
 loop-again c =
-    let m = i (c .before) in
-    m .before .before .loop .inv ∙ off-later (ok (t m)) (n (t m)) (p m) (inside m) (sym (test (c .before)) ∙ c .if2 .taken)
+    let d = c .before .before in
+    let m = i d in
+    up-more (x (t m)) (t m .args .i) (guardOf (x (t m)) (t m .args .g)) (m .before .before .loop .off) (inside m) (room m) (is d) (c .before .bit .ensures ∙ mark-read (t m .pre .0) (t m .args .i) (p m)) (c .off-by .ensures)
+    (m .before .before .loop .inv)
 
 returns : tie.Need-returns Inv-loop μ-loop
 returns c =
-    let m = i (c .before) in
-    sym (m .before .before .loop .inv ∙ off-here (ok (t m)) (n (t m)) (p m) (inside m) (sym (test (c .before)) ∙ c .if2 .left))
-
-returns-2 : tie.Need-returns-2 Inv-loop μ-loop
-returns-2 c =
     let s = c .before .before .before .before .before .before .before .before in
-    sym (c .before .before .loop .inv ∙ off-end (ok s) (n s) (c .before .before .loop .p) (omega (arith, held s)))
+    up-all (x s) (s .args .i) (guardOf (x s) (s .args .g)) (omega (arith, held s)) (c .before .before .loop .inv)
 
-pub guard-wrong-spec : {M : Type 1} → statement M
-guard-wrong-spec =
+pub guard-row-spec : {M : Type 1} → statement M
+guard-row-spec =
     tie.close
     (tie.spec
     Inv-loop
@@ -188,10 +187,11 @@ guard-wrong-spec =
     array-copy-out-place
     rounds-of-requires
     guard-through-requires
+    code-requires
+    array-write-row
     bit-requires
-    is-right-requires
+    off-by-requires
     add-p
     loop-less
     loop-again
-    returns
-    returns-2)
+    returns)
