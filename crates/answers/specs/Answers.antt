@@ -1,5 +1,5 @@
--- The documents' numbers for every answer of the checker, to a record, of a judgement and of writing a case back, and the order in which refusals are tested. No other
--- place has them.
+-- The documents' numbers for every answer of the checker, to a record, of a judgement, of filling in the marks and of writing a case back, and the order in which
+-- refusals are tested. No other place has them.
 use mathlib.Core.List.{List, [], _∷_}
 use mathlib.Core.Bool.{Bool, true, false}
 use Prim.Native.Nat.{ℕ, _<_}
@@ -8,6 +8,8 @@ use lib.ListN.{length, getD}
 use Rattle.laws.specs.Lowest.{lowest}
 use Rattle.answers.specs.declared.Answer.{Answer}
 use Rattle.answers.specs.declared.Answer.the-variants.{Taken, NotARecord, NoLineFeed, NoSuchKind, Misspelled, Misfilled, OutOfRange, OutOfOrder, NoRoom, NotThere, Misplaced, WrongWayIn}
+use Rattle.answers.specs.declared.Filling.the-variants.{Marked, Refused, Changes}
+use Rattle.answers.specs.declared.Filling.{Filling}
 use Rattle.answers.specs.declared.Judgement.the-variants.{Accepted, GuardFails, RootUnmarked, Unconnected, Unfinished, WrongMark, WrongStart}
 use Rattle.answers.specs.declared.Judgement.{Judgement}
 use Rattle.answers.specs.declared.Told.{Told}
@@ -82,6 +84,12 @@ numbersOf (Unconnected p t) = numbers 32 (p .0) t
 numbersOf (GuardFails p g) = numbers 33 (p .0) g
 numbersOf (WrongMark p i) = numbers 34 (p .0) i
 numbersOf (RootUnmarked r) = numbers 35 0 r
+
+-- the numbers of filling in the marks: those of the judgement, and 37 with the place and the sentence
+abbrev pub fillingNumbers : Filling → Told
+fillingNumbers Marked = numbers 0 0 0
+fillingNumbers (Refused a) = numbersOf a
+fillingNumbers (Changes p i) = numbers 37 (p .0) i
 
 -- the numbers of what is written: 0 with the number of bytes, 41 with 0
 abbrev pub writtenNumbers : Written → Told

@@ -1,6 +1,6 @@
-// Every answer of the checker: to a record, and of a judgement; with the three numbers that document 01 has for it.
+// Every answer of the checker: to a record, of a judgement, of filling in the marks and of writing a case back; with the three numbers that the documents have for it.
 ghost use mathlib.Core.Path.{_≡_};
-ghost use Rattle.answers.specs.Answers.{isTaken, numberOf, thirdOf, numbersOf, writtenNumbers};
+ghost use Rattle.answers.specs.Answers.{isTaken, numberOf, thirdOf, numbersOf, fillingNumbers, writtenNumbers};
 use items::PlaceNo;
 
 // What a record is answered; with a field, counted from 1, where one is named, and for a field that is misspelled the place of its bad byte in the record.
@@ -35,6 +35,16 @@ pub enum Judgement {
     WrongMark(PlaceNo, u8),
     // 35: the root, which isn't marked at place 0
     RootUnmarked(u8),
+}
+
+// What filling in the marks tells.
+pub enum Filling {
+    // 0: every sentence is marked, at every place, as it is there
+    Marked,
+    // 24, 31, 32 and 33, as in judging
+    Refused(Judgement),
+    // 37: the place, and the sentence whose truth changes between its rounds
+    Changes(PlaceNo, u8),
 }
 
 // What writing a case back tells.
@@ -154,6 +164,23 @@ impl Judgement {
                 result: 35,
                 second: 0,
                 third: r as usize,
+            },
+        }
+    }
+}
+
+impl Filling {
+    // The three numbers of filling in the marks.
+    pub fn told(self) -> Told
+        ensures { λ r. ⌜ r ≡ fillingNumbers self ⌝ }
+    {
+        match self {
+            Filling::Marked => Judgement::Accepted.told(),
+            Filling::Refused(judgement) => judgement.told(),
+            Filling::Changes(p, i) => Told {
+                result: 37,
+                second: p.0,
+                third: i as usize,
             },
         }
     }

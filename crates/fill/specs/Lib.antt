@@ -1,0 +1,6 @@
+pub mod Filled
+pub mod Told
+pub mod Places
+pub mod Steps
+pub mod Turns
+pub mod Theorems
