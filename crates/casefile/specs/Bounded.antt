@@ -1,4 +1,4 @@
--- What comes after one record more than a case has room for cannot change the answer. Assumes nothing.
+-- What comes after one record more than a case has room for cannot change what is collected, nor the answer. Assumes nothing.
 use mathlib.Core.Path.{_≡_, refl, _∙_, sym, ap, ap₂}
 use mathlib.Core.List.{List, [], _∷_}
 use mathlib.Core.Bool.{Bool, true, false, cond}
@@ -68,9 +68,14 @@ collected-first (suc k) (b ∷ rs) c m s h =
     go true z f = f refl
     go false z f = refl
 
+-- of a file as of its first bytes
+pub collected-bounded : (bs : List ℕ) → collectedOf emptyCase (take enough bs) ≡ collectedOf emptyCase bs
+unfolding collectedOf cut
+collected-bounded bs =
+    ap (collectedFrom emptyCase 0) (cut-first (suc room) enough (length (take enough bs)) (length bs) bs refl (omega arith) (omega arith))
+    ∙ collected-first (suc room) (cut bs) emptyCase 0 sound-empty (omega arith)
+
 -- a file is answered as its first bytes are
 pub bounded : (bs : List ℕ) → answerOf (take enough bs) ≡ answerOf bs
-unfolding answerOf collectedOf cut
-bounded bs =
-    ap (λ rs. answerAfter (collectedFrom emptyCase 0 rs)) (cut-first (suc room) enough (length (take enough bs)) (length bs) bs refl (omega arith) (omega arith))
-    ∙ ap answerAfter (collected-first (suc room) (cut bs) emptyCase 0 sound-empty (omega arith))
+unfolding answerOf
+bounded bs = ap answerAfter (collected-bounded bs)

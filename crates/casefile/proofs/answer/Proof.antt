@@ -1,5 +1,5 @@
 -- The records of the file are taken; where one is refused what is collected says it all, and else the case, which is sound, is judged. Assumes nothing.
-use mathlib.Core.Path.{_≡_, _∙_, sym, ap, ap₂}
+use mathlib.Core.Path.{_≡_, _∙_, sym, ap}
 use lib.ListN.{take}
 use Rattle.laws.specs.All.{sumOver}
 use Rattle.answers.specs.declared.Told.{Told}
@@ -47,23 +47,14 @@ returns c =
     answer-by (i .before .before)
     (simp (sym (i .before .is-taken .ensures), i .if1 .taken) (c .told .ensures ∙ ap numbersOf (c .before .judge .ensures)))
 
-number-requires : tie.Need-number-requires
-number-requires c κs = search needs
-
-cast-t8 : tie.Need-cast-t8
-cast-t8 c = search needs
-
-third-requires : tie.Need-third-requires
-third-requires c κs = search needs
+refused-requires : tie.Need-refused-requires
+refused-requires c κs = search needs
 
 returns-2 : tie.Need-returns-2
 unfolding sumOver
 returns-2 c =
-    let e = c .before .before in
-    let r = e .before .before .take-all .result in
-    answer-by (e .before .before)
-    (simp (sym (e .before .is-taken .ensures), e .if1 .left)
-    (ap₂ (λ n f. record { result = n; second = r .taken; third = f }) (c .before .number .ensures) (c .third .ensures)))
+    let e = c .before in
+    answer-by (e .before .before) (simp (sym (e .before .is-taken .ensures), e .if1 .left) (c .refused .ensures))
 
 pub answer-spec : {M : Type 1} → statement M
 answer-spec =
@@ -75,7 +66,5 @@ answer-spec =
     judge-requires
     told-requires
     returns
-    number-requires
-    cast-t8
-    third-requires
+    refused-requires
     returns-2)

@@ -1,4 +1,4 @@
--- `plancheck::read_all` is safe and ends, and the bytes that it counts lie in the buffer. The loop's invariant: so do those read so far. The measure
+-- `input::read_all` is safe and ends, and the bytes that it counts lie in the buffer. The loop's invariant: so do those read so far. The measure
 -- is the room that is left, since each turn that goes on has read a byte. Assumes nothing.
 use borrow.Author.Needs.{needs}
 use mathlib.Core.Path.{_≡_}
@@ -6,8 +6,8 @@ use Prim.Native.Nat.{_-_, _≤_}
 use native.Mathlib.Omega.{arith}
 use lib.ListN.{length}
 use Rattle.io.proofs.Counting.{counts}
-use Rattle.plancheck.proofs.read_all.Statement.{statement}
-use Rattle.plancheck.proofs.read_all.Tie as tie
+use Rattle.input.proofs.read_all.Statement.{statement}
+use Rattle.input.proofs.read_all.Tie as tie
 
 abbrev Inv-loop : tie.InvT-loop
 Inv-loop buf₀ count₀ buf count = (count ≤ length buf) × (length buf ≡ length buf₀)

@@ -1,9 +1,9 @@
--- `plancheck::read` is safe and ends: the measure is the turns that are left, from a number that no run uses up. Assumes nothing.
+-- `input::read` is safe and ends: the measure is the turns that are left, from a number that no run uses up. Assumes nothing.
 use borrow.Author.Needs.{needs}
 use mathlib.Core.Path.{_≡_}
 use lib.ListN.{length}
-use Rattle.plancheck.proofs.read.Statement.{statement}
-use Rattle.plancheck.proofs.read.Tie as tie
+use Rattle.input.proofs.read.Statement.{statement}
+use Rattle.input.proofs.read.Tie as tie
 
 abbrev Inv-loop : tie.InvT-loop
 Inv-loop part₀ got₀ turns₀ part got turns = length part ≡ length part₀
