@@ -1,6 +1,5 @@
 //! The files that are measured.
-use crate::plain::{Answer, Case, LENGTH};
-use crate::plain_judge::{Run, Throughout};
+use crate::plain::{Answer, Case};
 
 /// The twelve rounds of document 01.
 pub const TWELVE_ROUNDS: &[u8] = include_bytes!("../crates/plancheck/stdin");
@@ -119,21 +118,12 @@ fn place(p: i64, states: i64, places: i64, rounds: u32) -> String {
     format!("P {} {way} 0 {mark}", p % states)
 }
 
-/// The file with marks that are right, wherever a truth doesn't change between the rounds of a place.
-fn with_right_marks(mut file: Vec<u8>) -> Vec<u8> {
+/// The file with its marks filled in; no truth may change between the rounds of a place.
+fn with_right_marks(file: Vec<u8>) -> Vec<u8> {
     let mut case = Case::empty();
     assert_eq!(case.take_all(&file), Answer::Taken);
-    let run = Run::of(&case);
-    for i in 0..case.sentences() {
-        let truth = case.truth(&run, i);
-        for p in 0..case.places() {
-            case.places[p].marks |= u32::from(truth[p] == Throughout::Always) << i;
-        }
-    }
-    // the places come last, and their marks are field 3
-    let places = file.len() - LENGTH * case.places();
-    for (p, bytes) in file[places..].chunks_mut(LENGTH).enumerate() {
-        bytes[15..22].copy_from_slice(format!("{:>7}", case.places[p].marks).as_bytes());
-    }
-    file
+    assert_eq!(case.fill(), [0, file.len(), 0]);
+    let mut filled = vec![0; file.len()];
+    case.write(&mut filled);
+    filled
 }

@@ -1,15 +1,17 @@
-//! The proved code against plain Rust that does the same computation: reading and taking a file of 213 records, writing it back, and judging a
-//! case file, from its bytes to its result. Prints the time of a call and the ratio, measured by turns in one run, and the full size with 1 round
-//! against 1,000,000. `check` only compares the two, on these files and on the stored cases (standard input, as tests/cases.py prints them), and
-//! the bytes that they write; `proved NAME` or `plain NAME` makes one call, for counting instructions.
+//! The proved code against plain Rust that does the same computation: reading and taking a file of 213 records, writing it back, judging a case
+//! file, from its bytes to its result, and filling in the marks of a case. Prints the time of a call and the ratio, measured by turns in one run;
+//! the full size with 1 round against 1,000,000; and filling against judging. `check` only compares the two, on these files and on the stored
+//! cases (standard input, as tests/cases.py prints them), and the bytes that they write; `proved NAME` or `plain NAME` makes one call, for
+//! counting instructions.
 mod cases;
 #[path = "../tests/library.rs"]
 mod library;
 mod plain;
+mod plain_fill;
 mod plain_judge;
 mod plain_write;
 
-use library::{Buffer, Stored};
+use library::{Buffer, Filled, Stored};
 use plain::{Case, LENGTH};
 use std::hint::black_box;
 use std::process::exit;
@@ -18,6 +20,7 @@ use std::time::Instant;
 extern "C" {
     fn marks_held(src: *const u8, count: usize, place: usize) -> u32;
     fn write_times(src: *const u8, count: usize, lent: *mut u8, room: usize, times: usize);
+    fn fill_times(src: *const u8, count: usize, times: usize, place: usize) -> u32;
 }
 
 /// The place whose marks are read, so that the stores cannot be left out.
@@ -43,7 +46,7 @@ pub fn plain_case_result(src: &[u8]) -> usize {
     plain_judge::answer(src)[0]
 }
 
-/// So many times a file is written back, besides once, to tell the writing from the taking.
+/// So many times a file is written back or filled, besides once, to tell that from the taking.
 const MORE: usize = 20;
 
 fn proved_write_times(src: &[u8], lent: &mut [u8], times: usize) -> usize {
@@ -59,6 +62,23 @@ pub fn plain_write_times(src: &[u8], lent: &mut [u8], times: usize) -> usize {
     case.take_all(src);
     for _ in 0..times {
         black_box(&case).write(black_box(lent));
+    }
+    times
+}
+
+fn proved_fill_times(src: &[u8], times: usize) -> usize {
+    // SAFETY: the function reads these bytes and keeps nothing.
+    black_box(unsafe { fill_times(src.as_ptr(), src.len(), times, LAST) });
+    times
+}
+
+#[no_mangle]
+#[inline(never)]
+pub fn plain_fill_times(src: &[u8], times: usize) -> usize {
+    let mut case = Case::empty();
+    case.take_all(src);
+    for _ in 0..times {
+        black_box(&mut case).fill();
     }
     times
 }
@@ -102,6 +122,21 @@ fn writing() -> [Bench; 2] {
     ]
 }
 
+/// The full size: taken, judged, filled once, and so many times more.
+fn filling() -> [Bench; 4] {
+    let (file, calls) = (cases::full(1_000_000), 5);
+    let mut case = Case::empty();
+    case.take_all(&file);
+    let marks = case.places[LAST].marks as usize;
+    let of_full = |name, proved, plain, expected| Bench { name, file: file.clone(), proved, plain, expected, calls };
+    [
+        of_full("full taken", |file, _| proved_marks_held(file), |file, _| plain_marks_held(file), marks),
+        of_full("full judged", |file, _| library::result(file), |file, _| plain_case_result(file), 0),
+        of_full("filled once", |file, _| proved_fill_times(file, 1), |file, _| plain_fill_times(file, 1), 1),
+        of_full("filled more", |file, _| proved_fill_times(file, 1 + MORE), |file, _| plain_fill_times(file, 1 + MORE), 1 + MORE),
+    ]
+}
+
 /// A buffer that is long enough for every file that is measured.
 fn buffer() -> Vec<u8> {
     vec![0; 213 * LENGTH]
@@ -140,13 +175,26 @@ fn check_written(benches: &[Bench], stored: &[Stored]) -> bool {
     passed == alike.len()
 }
 
+/// Compares how the two fill the files that are measured, and the stored cases.
+fn check_filled(benches: &[Bench], stored: &[Stored]) -> bool {
+    let alike = |file: &[u8]| {
+        let output = plain_fill::filled(file);
+        Filled::of(file, output.len() + LENGTH, output.len()).agrees(&output)
+    };
+    let files = || benches.iter().map(|bench| &bench.file).chain(stored.iter().map(|case| &case.bytes));
+    let (passed, all) = (files().filter(|file| alike(file)).count(), files().count());
+    println!("bench: files whose marks are filled in: {passed} passed, {} failed", all - passed);
+    passed == all
+}
+
 /// Compares the two on the files that are measured, and on the stored cases.
 fn check(benches: &[Bench]) -> bool {
     assert_alike(&Vec::from_iter(benches));
     println!("bench: files that are measured: {} passed, 0 failed", benches.len());
     let stored = library::stored();
     let answers = library::compared("bench", &stored, |bytes| Some(plain_judge::answer(bytes)));
-    check_written(benches, &stored) && answers
+    let written = check_written(benches, &stored);
+    check_filled(benches, &stored) && written && answers
 }
 
 /// Nanoseconds of one call, after a first that isn't counted.
@@ -188,11 +236,21 @@ fn measure_writing(writing: &[&Bench]) {
     show("213 records written back", [0, 1].map(|side| (more[side] - once[side]) / MORE as f64));
 }
 
-fn measure(benches: &[Bench], writing: &[Bench]) {
-    let (benches, writing) = (Vec::from_iter(benches), Vec::from_iter(writing));
+/// Filling alone: what the filling that comes after the first takes; and that against judging the filled case, without the taking.
+fn measure_filling(filling: &[&Bench]) {
+    let [taken, judged, once, more] = medians(filling, 400)[..] else { panic!("four benchmarks") };
+    let fill = [0, 1].map(|side| (more[side] - once[side]) / MORE as f64);
+    let [proved, plain] = [0, 1].map(|side| fill[side] / (judged[side] - taken[side]));
+    show("full-1000000, marks filled in", fill);
+    println!("filling against judging the filled case, both without the taking: proved {proved:.2} (limit 2), plain Rust {plain:.2}");
+}
+
+fn measure(benches: &[Bench], writing: &[Bench], filling: &[Bench]) {
+    let (benches, writing, filling) = (Vec::from_iter(benches), Vec::from_iter(writing), Vec::from_iter(filling));
     let (taken, judged) = benches.split_at(1);
     assert_alike(&benches);
     assert_alike(&writing);
+    assert_alike(&filling);
     show("213 records read and taken", medians(taken, 400)[0]);
     measure_writing(&writing);
     let times = medians(judged, 1000);
@@ -202,14 +260,15 @@ fn measure(benches: &[Bench], writing: &[Bench]) {
     // a little above 1: with 1 round the guards of the back moves aren't tested, and the rounds are one digit to read instead of seven
     let ratio = |at: usize| times[3][at] / times[2][at];
     println!("1000000 rounds against 1: proved {:.3}, plain Rust {:.3}", ratio(0), ratio(1));
+    measure_filling(&filling);
 }
 
 fn main() {
-    let (benches, writing) = (benches(), writing());
+    let (benches, writing, filling) = (benches(), writing(), filling());
     let words: Vec<String> = std::env::args().skip(1).collect();
-    let named = |name: &str| benches.iter().chain(&writing).find(|bench| bench.name == name).expect("the name of a file");
+    let named = |name: &str| benches.iter().chain(&writing).chain(&filling).find(|bench| bench.name == name).expect("the name of a file");
     match words.iter().map(String::as_str).collect::<Vec<_>>()[..] {
-        [] => measure(&benches, &writing),
+        [] => measure(&benches, &writing, &filling),
         ["check"] => exit(!check(&benches) as i32),
         ["proved", name] => println!("{}", (named(name).proved)(&named(name).file, &mut buffer())),
         ["plain", name] => println!("{}", (named(name).plain)(&named(name).file, &mut buffer())),

@@ -129,21 +129,38 @@ impl Case {
         self.places[place].marks >> sentence & 1 == 1
     }
 
-    // The judgement's three numbers.
-    fn judge(&self) -> [usize; 3] {
+    // Takes a file; or tells the three numbers of the first record that is refused.
+    pub fn take_file(&mut self, src: &[u8]) -> Result<(), [usize; 3]> {
+        match self.take_all(src) {
+            Answer::Taken => Ok(()),
+            Answer::Refused(result, what) => Err([result as usize, self.count.iter().sum(), what as usize]),
+        }
+    }
+
+    // The run of a plan; or the three numbers of the first that applies of 24, 31, 32 and 33.
+    pub fn run(&self) -> Result<Run, [usize; 3]> {
         if self.sentences() == 0 || !self.endless || self.places() < self.end {
-            return [24, self.count.iter().sum(), 0];
+            return Err([24, self.count.iter().sum(), 0]);
         }
         if self.places[0].state != 0 {
-            return [31, 0, 0];
+            return Err([31, 0, 0]);
         }
         if let Some((place, way)) = self.unconnected() {
-            return [32, place, way as usize];
+            return Err([32, place, way as usize]);
         }
         let run = Run::of(self);
         if let Some((place, guard)) = self.failing(&run) {
-            return [33, place, guard as usize];
+            return Err([33, place, guard as usize]);
         }
+        Ok(run)
+    }
+
+    // The judgement's three numbers.
+    fn judge(&self) -> [usize; 3] {
+        let run = match self.run() {
+            Ok(run) => run,
+            Err(refused) => return refused,
+        };
         if let Some((place, sentence)) = self.wrong_mark(&run) {
             return [34, place, sentence];
         }
@@ -323,8 +340,5 @@ impl Case {
 // The three numbers of a file.
 pub fn answer(src: &[u8]) -> [usize; 3] {
     let mut case = Case::empty();
-    match case.take_all(src) {
-        Answer::Taken => case.judge(),
-        Answer::Refused(result, what) => [result as usize, case.count.iter().sum(), what as usize],
-    }
+    case.take_file(src).map_or_else(|refused| refused, |()| case.judge())
 }

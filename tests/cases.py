@@ -1,9 +1,10 @@
 #!/usr/bin/env python3
-"""The stored cases (vectors.tsv), and the twelve rounds of document 01 (the program's own stdin).
+"""The stored cases (vectors.tsv), those of the words of plantool (fill.tsv), and the twelve rounds of document 01 (plancheck's own stdin).
 
 As a program, cases.py [FILE] prints each stored case as name TAB expected line TAB its bytes in hex, for the tests in Rust.
 
-Each line of the file: name TAB expected line TAB records TAB edits; '#' starts a comment line.
+Each line of the file: name TAB expected line TAB records TAB edits; '#' starts a comment line. For a word of plantool: name TAB the word and its
+numbers TAB all that is printed, with \\n for a line feed, TAB records TAB edits.
 records: 'K f1 f2 ...' joined by '/', '.' for a blank field, trailing blanks left off; '' is the empty file.
 edits, separated by spaces, applied in order to the bytes: @OFF=HEX overwrite at OFF; !LEN cut to LEN bytes; +HEX append;
 -OFF,N delete N bytes; *N repeat the file N times.
@@ -19,6 +20,7 @@ LENGTH = 58
 TWELVE = (ROOT / "crates" / "plancheck" / "stdin").read_bytes()
 
 Stored = collections.namedtuple("Stored", "name line records edits data")
+Worded = collections.namedtuple("Worded", "name words output data")
 
 
 def pack(words):
@@ -60,21 +62,32 @@ def edited(data, edits):
     return data
 
 
-def stored(path=ROOT / "tests" / "vectors.tsv"):
-    """The stored cases; a file that has none, or a line without the four columns, is an error."""
-    cases = []
+def rows(path, columns):
+    """The lines of a file of cases, in columns; a file that has none, or a line without as many columns, is an error."""
+    found = []
     with open(path, encoding="ascii") as lines:
         for number, line in enumerate(lines, 1):
             if line.startswith("#"):
                 continue
-            columns = line.rstrip("\n").split("\t")
-            if len(columns) != 4:
-                raise ValueError(f"{path}: line {number} has {len(columns)} columns, and a case has 4")
-            name, expected, records, edits = columns
-            cases.append(Stored(name, expected, records, edits, edited(spelled(records), edits)))
-    if not cases:
+            found.append(line.rstrip("\n").split("\t"))
+            if len(found[-1]) != columns:
+                raise ValueError(f"{path}: line {number} has {len(found[-1])} columns, and a case has {columns}")
+    if not found:
         raise ValueError(f"{path}: no case")
-    return cases
+    return found
+
+
+def stored(path=ROOT / "tests" / "vectors.tsv"):
+    """The stored cases."""
+    return [Stored(name, line, records, edits, edited(spelled(records), edits)) for name, line, records, edits in rows(path, 4)]
+
+
+def worded(path):
+    """The cases of a word of plantool."""
+    return [
+        Worded(name, words.split(" "), output.replace("\\n", "\n"), edited(spelled(records), edits))
+        for name, words, output, records, edits in rows(path, 5)
+    ]
 
 
 if __name__ == "__main__":

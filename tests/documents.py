@@ -19,7 +19,7 @@ MAY = {
     "Laws": ["What must be believed", "What is computed"],
     "Programs": ["What must be believed", "What is computed", "Laws"],
 }
-ALWAYS = {"laws", "os", "libc", "io"}  # the general laws, and the toolchain's libraries
+ALWAYS = {"laws", "os", "libc", "io", "check"}  # the general laws, and the toolchain's libraries
 
 
 def absent_files(name):

@@ -1,8 +1,9 @@
 #!/usr/bin/env python3
-"""examples.py PROGRAM: the examples, each spelled by tools/case, give the lines that their first comments say; and tools/case itself.
+"""examples.py PLANCHECK PLANTOOL: the examples, each spelled by tools/case, give the lines that their first comments say; and tools/case itself.
 
-PROGRAM reads a case file from standard input and prints its line. tools/case is tested on the records of the stored cases, there and back,
-against the spelling of tests/cases.py, and on notation and bytes that it must refuse.
+PLANCHECK reads a case file from standard input and prints its line. PLANTOOL does so with the word fill, and prints the file with the right marks
+behind its line; an example whose second comment says so gives that line when it is filled. tools/case is tested on the records of the stored
+cases, there and back, against the spelling of tests/cases.py, and on notation and bytes that it must refuse.
 """
 import os
 import subprocess
@@ -89,15 +90,25 @@ def refused(why):
     return b"", f"case: standard input: {why}\n", 1
 
 
-def examples(tally, program):
-    """The examples give their lines, and come back from `show` as they were spelled."""
+def filled(tool, data):
+    """The file that filling gives."""
+    return subprocess.run([tool, "fill"], input=data, stdout=subprocess.PIPE).stdout.partition(b"\n")[2]
+
+
+def examples(tally, program, tool):
+    """The examples give their lines, and come back from `show` as they were spelled; those without marks, filled, give another line."""
+    line_of = lambda data: subprocess.run([program], input=data, stdout=subprocess.PIPE).stdout.decode()
+    unmarked = 0
     files = {file.name: case("spell", file.read_bytes()) for file in sorted(EXAMPLES.glob("*.case"))}
     for name, (spelled, complaint, _) in files.items():
-        first = (EXAMPLES / name).read_text().split("\n")[0]
+        first, second = (EXAMPLES / name).read_text().split("\n")[:2]
         tally.equal(f"{name}: complaint", "", complaint)
-        line = subprocess.run([program], input=spelled, stdout=subprocess.PIPE).stdout.decode()
-        tally.equal(name, first + "\n", "# gives: " + line)
+        tally.equal(name, first + "\n", "# gives: " + line_of(spelled))
+        if second.startswith("# filled: "):
+            tally.equal(f"{name}: filled", second + "\n", "# filled: " + line_of(filled(tool, spelled)))
+            unmarked += 1
         tally.equal(f"{name}: there and back", taken(spelled), case("spell", case("show", spelled)[0]))
+    tally.equal("examples without marks", True, unmarked > 0)
     tally.equal("twelve-rounds.case spells the program's stdin", taken(TWELVE), files["twelve-rounds.case"])
     return len(files)
 
@@ -115,11 +126,11 @@ def records_there_and_back(tally):
 
 
 def main():
-    if len(sys.argv) != 2:
+    if len(sys.argv) != 3:
         sys.exit(__doc__)
     tally = Tally("examples")
     tally.equal("tools/case can be run", True, os.access(TOOL, os.X_OK))
-    files = examples(tally, os.path.abspath(sys.argv[1]))
+    files = examples(tally, *map(os.path.abspath, sys.argv[1:]))
     records = records_there_and_back(tally)
     for text, want in ALSO_NOTATION:
         tally.equal(repr(text), taken(b"".join(map(pack, want))), case("spell", text.encode()))

@@ -1,4 +1,5 @@
-//! The proved library, called through its C functions; buffers to write into; and the stored cases, answered by it and by another checker.
+//! The proved library, called through its C functions; buffers to write into, and what filling leaves in them; and the stored cases, answered by
+//! the library and by another checker.
 use std::collections::BTreeSet;
 
 /// The three numbers of the line.
@@ -18,6 +19,12 @@ extern "C" {
     fn case_third(bytes: *const u8, count: usize) -> usize;
     fn write_result(bytes: *const u8, count: usize, buffer: *mut u8, room: usize) -> usize;
     fn write_count(bytes: *const u8, count: usize, buffer: *mut u8, room: usize) -> usize;
+}
+
+#[link(name = "testing_fill", kind = "static")]
+extern "C" {
+    fn fill_bytes(bytes: *const u8, count: usize, buffer: *mut u8, room: usize) -> usize;
+    fn fill_kept(bytes: *const u8, count: usize, buffer: *mut u8, room: usize) -> usize;
 }
 
 /// The first number of the library's answer.
@@ -64,6 +71,47 @@ pub fn write(bytes: &[u8], buffer: &Buffer) -> (Written, [Buffer; 2]) {
     let lent = one.lent();
     let result = unsafe { write_result(bytes.as_ptr(), bytes.len(), lent.as_mut_ptr(), lent.len()) };
     ([result, count_written(bytes, other.lent())], [one, other])
+}
+
+/// Filling the case of a file, into a buffer: how many bytes are told, and the buffer before and after.
+pub struct Filled {
+    before: Buffer,
+    count: usize,
+    after: Buffer,
+}
+
+impl Filled {
+    /// The library's filling, into a buffer of this length.
+    pub fn of(bytes: &[u8], length: usize, seed: usize) -> Filled {
+        let before = Buffer::new(length, seed);
+        let mut after = before.clone();
+        let lent = after.lent();
+        // SAFETY: the function reads the bytes, writes into what is lent and keeps nothing.
+        let count = unsafe { fill_bytes(bytes.as_ptr(), bytes.len(), lent.as_mut_ptr(), lent.len()) };
+        Filled { before, count, after }
+    }
+
+    /// Whether this output stands at the front of the buffer, all else in it being as it was, and its length is told. In a buffer that is too
+    /// short for it there is nothing of it.
+    pub fn agrees(&self, output: &[u8]) -> bool {
+        let mut after = self.before.clone();
+        let room = after.lent().get_mut(..output.len());
+        let fits = room.is_some();
+        if let Some(front) = room {
+            front.copy_from_slice(output);
+        }
+        self.count == if fits { output.len() } else { 0 } && self.after == after
+    }
+}
+
+/// The file of the case that the library's filling hands back, filled or not, where no case has more bytes than this.
+#[allow(dead_code)] // the benchmark doesn't ask for it
+pub fn kept(bytes: &[u8], most: usize) -> Vec<u8> {
+    let mut file = vec![0; most];
+    // SAFETY: the function reads the bytes, writes into what is lent and keeps nothing.
+    let count = unsafe { fill_kept(bytes.as_ptr(), bytes.len(), file.as_mut_ptr(), file.len()) };
+    file.truncate(count);
+    file
 }
 
 /// A stored case: its name, the numbers of its line and its bytes.

@@ -16,9 +16,10 @@ PLACE = pack(["P", "0", "0", "1"])
 FULL = STATE * 32 + spelled("W 0 0 0 0" + "/G 0 0 0 0 0" * 32 + "/T 0 0 0 0 0 0" * 64 + "/F 0" * 20 + "/P 0 . 1048575 64 . 0" + "/P 0 0 1048575" * 63)
 
 
-def answered(program, data):
+def answered(command, data):
+    """What a program prints."""
     try:
-        return subprocess.run([program], input=data, stdout=subprocess.PIPE, check=True).stdout.decode("latin-1")
+        return subprocess.run(command, input=data, stdout=subprocess.PIPE, check=True).stdout.decode("latin-1")
     except BrokenPipeError:
         return "(the pipe broke)"
 
@@ -44,32 +45,37 @@ def shapes():
     yield "100 MB", bytes(100_000_000), "12 0 0"
 
 
-def slowly(program):
+def slowly(command):
     """A pipe that gives a byte at a time."""
-    process = subprocess.Popen([program], stdin=subprocess.PIPE, stdout=subprocess.PIPE, bufsize=0)
+    process = subprocess.Popen(command, stdin=subprocess.PIPE, stdout=subprocess.PIPE, bufsize=0)
     for byte in TWELVE:
         process.stdin.write(bytes([byte]))
     process.stdin.close()
     return process.stdout.read().decode("latin-1")
 
 
-def refused(program, **where):
-    """A standard input that can't be read: whether there is no line, and a message."""
-    run = subprocess.run([program], capture_output=True, **where)
+def refused(command, **where):
+    """Whether there is no line, and a message."""
+    run = subprocess.run(command, capture_output=True, **where)
     return run.stdout == b"" and run.stderr != b""
+
+
+def unreadable(tally, command):
+    """A standard input that can't be read."""
+    tally.equal("a directory is refused", True, refused(command, stdin=os.open("/", os.O_RDONLY)))
+    tally.equal("a closed standard input is refused", True, refused(command, preexec_fn=lambda: os.close(0)))
 
 
 def main():
     if len(sys.argv) not in (2, 3):
         sys.exit(__doc__)
-    program, tally = sys.argv[1], Tally("program")
+    command, tally = sys.argv[1:2], Tally("program")
     for case in stored(*sys.argv[2:]):
-        tally.equal(case.name, case.line + "\n", answered(program, case.data))
+        tally.equal(case.name, case.line + "\n", answered(command, case.data))
     for name, data, line in shapes():
-        tally.equal(name, line + "\n", answered(program, data))
-    tally.equal("a byte at a time", "0 0 0\n", slowly(program))
-    tally.equal("a directory is refused", True, refused(program, stdin=os.open("/", os.O_RDONLY)))
-    tally.equal("a closed standard input is refused", True, refused(program, preexec_fn=lambda: os.close(0)))
+        tally.equal(name, line + "\n", answered(command, data))
+    tally.equal("a byte at a time", "0 0 0\n", slowly(command))
+    unreadable(tally, command)
     tally.finish()
 
 

@@ -14,6 +14,8 @@ from tally import Tally
 
 WRAPPER = ROOT / "plancheck"
 ACCEPTED = (0, "0 0 0\n", "")
+# What wrappers share, in tools/.
+SHARED = ["program.sh", "results.txt"]
 # What the wrapper calls beside rt.
 TOOLS = ["bash", "dirname", "find", "grep", "readlink", "rm", "touch"]
 WRITES = 'fn main() {\n    io::write_all(1, b"%s\\n");\n}\n'
@@ -21,14 +23,34 @@ PAST_THE_END = "fn main() {\n    let bytes = [0u8; 2];\n    io::write_all(1, &by
 
 
 def run(*command, **where):
-    """Status, standard output and standard error."""
-    usual = {"stdin": subprocess.DEVNULL, "stdout": subprocess.PIPE, "stderr": subprocess.PIPE, "text": True, "timeout": 60}
+    """Status, standard output and standard error, a character for each byte."""
+    usual = {"stdout": subprocess.PIPE, "stderr": subprocess.PIPE, "timeout": 60}
+    if "input" not in where:
+        usual["stdin"] = subprocess.DEVNULL
     done = subprocess.run(command, **{**usual, **where})
-    return done.returncode, done.stdout or "", done.stderr
+    return done.returncode, (done.stdout or b"").decode("latin-1"), done.stderr.decode("latin-1")
 
 
 def refused(tally, what, status, answer):
     tally.equal(what, (status, "", "a message"), (*answer[:2], "a message" if answer[2] else ""))
+
+
+def linked_tools(folder, more=()):
+    """A folder with what a wrapper calls beside rt."""
+    for tool in (*TOOLS, *more):
+        (folder / tool).symlink_to(shutil.which(tool))
+
+
+def repository(folder, wrapper):
+    """A small repository with a wrapper and a crate of its program that does nothing yet: the crate's folder."""
+    crate = folder / "crates" / wrapper.name
+    (crate / "src").mkdir(parents=True)
+    (folder / "tools").mkdir()
+    for name in SHARED:
+        shutil.copy(ROOT / "tools" / name, folder / "tools")
+    shutil.copy(wrapper, folder)
+    (folder / "crates.txt").write_text(f"{wrapper.name}: io libc\n")
+    return crate
 
 
 def accepts(tally, folder, path):
@@ -67,7 +89,7 @@ def refuses(tally, folder, path):
 
 def builds(tally, folder, path):
     """A repository in which nothing is built yet."""
-    crate, program = folder / "crates" / "plancheck", folder / "target" / "bin" / "plancheck"
+    crate, program = repository(folder, WRAPPER), folder / "target" / "bin" / "plancheck"
     source, command = crate / "src" / "main.rt", [folder / "plancheck", "/dev/null"]
     first, second = (0, "1 2 3\n", ""), (0, "4 5 6\n", "")
 
@@ -75,9 +97,6 @@ def builds(tally, folder, path):
         source.write_text(text)
         (crate / "stdout").write_text(line)
 
-    shutil.copy(WRAPPER, folder)
-    (folder / "crates.txt").write_text("plancheck: io libc\n")
-    source.parent.mkdir(parents=True)
     write(WRITES % "1 2 3", "1 2 3\n")
     status, line, message = run(*command, env={"PATH": path})
     tally.equal("no program and no rt", (2, "", True), (status, line, "rt is missing" in message))
@@ -102,16 +121,15 @@ def builds(tally, folder, path):
 def main():
     tally = Tally("wrapper")
     with tempfile.TemporaryDirectory() as name:
-        tools, files, repository = (pathlib.Path(name) / part for part in ("tools", "files", "repository"))
-        for folder in (tools, files, repository):
+        tools, files, small = (pathlib.Path(name) / part for part in ("tools", "files", "small"))
+        for folder in (tools, files, small):
             folder.mkdir()
-        for tool in TOOLS:
-            (tools / tool).symlink_to(shutil.which(tool))
+        linked_tools(tools)
         # after a change of any crate, the next call looks whether the program is built, and may build it
         tally.equal("the program is built", ACCEPTED[:2], run(WRAPPER, ROOT / "crates" / "plancheck" / "stdin", timeout=None)[:2])
         accepts(tally, files, tools)
         refuses(tally, files, tools)
-        builds(tally, repository, tools)
+        builds(tally, small, tools)
     tally.finish()
 
 

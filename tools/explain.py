@@ -10,6 +10,7 @@ from notation import FIELDS, KINDS, LENGTH, WIDTH, Refused, cut, field_of, show_
 ROOT = pathlib.Path(__file__).resolve().parent.parent
 PROGRAM = ROOT / "plancheck"
 FORMAT = ROOT / "docs" / "FORMAT.md"
+WORDS = ROOT / "tools" / "results.txt"
 LINE = re.compile("([0-9]+) ([0-9]+) ([0-9]+)\n")
 # A row of the format's table of fields: the record, its fields, what they hold, their range, whether they are filled.
 ROW = re.compile(rf"^\| ([{''.join(KINDS)}](?: [0-9]+)?) \| ([0-9][0-9, to]*) \| (.*?) \| (.*?) \| (.*?) \|", re.M)
@@ -294,27 +295,33 @@ def root_unmarked(records, where, what):
     return [shown(place), f"the root is {shown(items(records, 'sentence')[what])}", marks_line(place)]
 
 
-# What each result means, and what it names.
-RESULTS = {
-    0: ("the plan is accepted: it is a run, its marks are right, and the root is true at the start", accepted),
-    11: ("the file ends before the record does", too_short),
-    12: ("the record's last byte is no line feed", no_line_feed),
-    13: ("the record's first byte is no letter of a kind", no_kind),
-    14: ("a field is neither blank nor a number in its one spelling", misspelled),
-    15: ("a field is blank that is needed, or one is filled that isn't listed", of_field),
-    16: ("a number is too small or too large for its field", of_field),
-    21: ("records of a later kind have come already", too_late),
-    22: ("there are as many of this kind as there may be", too_many),
-    23: ("a field names or marks an item that isn't there", not_there),
-    24: ("the case isn't finished: no sentence, or no complete endless loop", unfinished),
-    25: ("the endless loop is complete and a place follows, or a loop begins inside another or ends behind place 63", misplaced),
-    26: ("place 0 has a move into it, or a later place has none", way_in_wrong),
-    31: ("the plan begins in another state than 0", wrong_start),
-    32: ("a move doesn't fit the states of its two places", unconnected),
-    33: ("a guard is false when its move is taken to the place", guard_fails),
-    34: ("a mark of the place is wrong at one of its moments", wrong_mark),
-    35: ("place 0 has no mark for the root", root_unmarked),
+# What each result names.
+NAMES = {
+    0: accepted,
+    11: too_short,
+    12: no_line_feed,
+    13: no_kind,
+    14: misspelled,
+    15: of_field,
+    16: of_field,
+    21: too_late,
+    22: too_many,
+    23: not_there,
+    24: unfinished,
+    25: misplaced,
+    26: way_in_wrong,
+    31: wrong_start,
+    32: unconnected,
+    33: guard_fails,
+    34: wrong_mark,
+    35: root_unmarked,
 }
+
+
+def words_of(result):
+    """What a result means."""
+    rows = (line.split(" ", 3) for line in WORDS.read_text(encoding="ascii").splitlines() if not line.startswith("#"))
+    return {number: words for number, _, _, words in rows}[str(result)]
 
 
 def line_of(data):
@@ -334,8 +341,7 @@ def explain(text):
     line = line_of(text.encode("latin-1"))
     try:
         result, where, what = map(int, line.split())
-        words, names = RESULTS[result]
-        lines = [line, words] + names(cut(text), where, what)
+        lines = [line, words_of(result)] + NAMES[result](cut(text), where, what)
     except (LookupError, ValueError):
         raise Refused(f"the line {line:.80} doesn't fit the case") from None
     return "".join(line + "\n" for line in lines)

@@ -29,6 +29,11 @@ impl Case {
         self.0[W].first().map_or([0; 4], |weights| std::array::from_fn(|counter| weights[1 + counter].expect("a filled field")))
     }
 
+    /// Whether a place marks a sentence.
+    pub fn marked(&self, place: usize, sentence: usize) -> bool {
+        self.number(P, place, 3) >> sentence & 1 == 1
+    }
+
     /// The guards of a move, with the field that names each.
     pub fn guards(&self, number: usize) -> impl Iterator<Item = (usize, usize)> + '_ {
         [7, 8].into_iter().filter_map(move |field| self.0[T][number][field].map(|guard| (field, guard as usize)))
@@ -60,37 +65,44 @@ pub fn guard_sum(guard: &Fields, counters: &[i64; 4]) -> i64 {
 
 /// 24, 31 to 35, or 0.
 pub fn judge(case: &Case, mistake: Mistake, steps: u64) -> Result<Answer, TooLong> {
-    if !case.finished() {
-        return Ok([24, case.0.iter().map(Vec::len).sum(), 0]);
-    }
-    if case.0[P][0][1] != Some(0) {
-        return Ok([31, 0, 0]);
-    }
-    if let Some((place, number)) = unconnected(case, mistake) {
-        return Ok([32, place, number]);
-    }
-    // guards of moves and sentences see the same run, but for two planted mistakes
-    let run = Run::new(case, if mistake == StartForSentences { StartAtZero } else { mistake }, steps)?;
-    if let Some((place, guard)) = run.failing_guard(case)? {
-        return Ok([33, place, guard]);
-    }
-    let run = match mistake {
-        StartForSentences => Run::new(case, Nothing, steps)?,
-        StartForMoves => Run::new(case, StartAtZero, steps)?,
-        _ => run,
+    let run = match run_of(case, mistake, steps)? {
+        Ok(run) => run,
+        Err(refused) => return Ok(refused),
     };
     let mut truths = Vec::new();
     for (number, sentence) in case.0[F].iter().enumerate() {
         let truth = run.truth(case, sentence, &truths)?;
-        let marked = |place: usize| case.number(P, place, 3) >> number & 1 == 1;
+        let marked = |place: usize| case.marked(place, number);
         if let Some(place) = run.wrong_place(case, sentence, &truth, marked)? {
             return Ok([34, place, number]);
         }
         truths.push(truth);
     }
     let root = case.0[F].len() - 1;
-    let marked = case.number(P, 0, 3) >> root & 1 == 1;
-    Ok(if marked { [0, 0, 0] } else { [35, 0, root] })
+    Ok(if case.marked(0, root) { [0, 0, 0] } else { [35, 0, root] })
+}
+
+/// The run as sentences see it; or what is told before the marks are looked at: 24, 31, 32 or 33.
+pub fn run_of(case: &Case, mistake: Mistake, steps: u64) -> Result<Result<Run, Answer>, TooLong> {
+    if !case.finished() {
+        return Ok(Err([24, case.0.iter().map(Vec::len).sum(), 0]));
+    }
+    if case.0[P][0][1] != Some(0) {
+        return Ok(Err([31, 0, 0]));
+    }
+    if let Some((place, number)) = unconnected(case, mistake) {
+        return Ok(Err([32, place, number]));
+    }
+    // guards of moves and sentences see the same run, but for two planted mistakes
+    let run = Run::new(case, if mistake == StartForSentences { StartAtZero } else { mistake }, steps)?;
+    if let Some((place, guard)) = run.failing_guard(case)? {
+        return Ok(Err([33, place, guard]));
+    }
+    Ok(Ok(match mistake {
+        StartForSentences => Run::new(case, Nothing, steps)?,
+        StartForMoves => Run::new(case, StartAtZero, steps)?,
+        _ => run,
+    }))
 }
 
 /// The first place whose way in, or else its back move, leads from or to another state; with that move.
@@ -449,9 +461,14 @@ impl Run {
 
     /// The smallest place where the mark differs from the truth at some moment.
     pub fn wrong_place(&self, case: &Case, sentence: &Fields, truth: &[bool], marked: impl Fn(usize) -> bool) -> Result<Option<usize>, TooLong> {
+        Ok(self.wrong_places(case, sentence, truth, marked)?.into_iter().position(|wrong| wrong))
+    }
+
+    /// By place, whether the mark differs from the truth at some moment.
+    pub fn wrong_places(&self, case: &Case, sentence: &Fields, truth: &[bool], marked: impl Fn(usize) -> bool) -> Result<Vec<bool>, TooLong> {
         let guard = (sentence[1] == Some(2)).then(|| &case.0[G][sentence[2].expect("a guard") as usize]);
         let once = |place: usize| self.mistake == FalseOnce && guard.is_some() && !marked(place);
-        let mut wrong = Vec::new();
+        let mut wrong = vec![false; case.0[P].len()];
         for (step, &truth) in self.moments.iter().zip(truth) {
             let skipped = match self.mistake {
                 MarksFirstRound => step.round > 1,
@@ -459,16 +476,16 @@ impl Run {
                 _ => once(step.place) && step.round > 1,
             };
             if !skipped && truth != marked(step.place) {
-                wrong.push(step.place);
+                wrong[step.place] = true;
             }
         }
         if let Some(guard) = guard.filter(|_| self.mistake != MarksEndlessOnce) {
             for (step, seen) in self.moments[self.endless..].iter().zip(self.later(case, guard)?) {
                 if !once(step.place) && seen[marked(step.place) as usize] {
-                    wrong.push(step.place);
+                    wrong[step.place] = true;
                 }
             }
         }
-        Ok(wrong.into_iter().min())
+        Ok(wrong)
     }
 }

@@ -1,7 +1,10 @@
 //! unroll cases COUNT SEED: case files, answered by the library and by the separate checker: the twelve rounds, given weights, with fields
 //! spelled badly, then random ones; each is also written back by both, and between them files of any numbers. Mistakes are planted in both.
-//! unroll stored: the stored cases, as tests/cases.py prints them, from standard input, answered and written back by both.
+//! unroll fill COUNT SEED: random case files whose marks are filled in by both; of small ones all marks are tried. Mistakes are planted there too.
+//! unroll stored: the stored cases, as tests/cases.py prints them, from standard input, answered, written back and filled by both.
 mod checker;
+mod filled;
+mod filler;
 #[path = "../library.rs"]
 mod library;
 mod mistakes;
@@ -13,9 +16,10 @@ mod writer;
 mod written;
 
 use checker::check;
+use filled::Fillings;
 use library::{Answer, Stored, RESULTS};
 use mistakes::{Mistake, MISTAKES};
-use random::{misspelled, random_file, weighted, Random};
+use random::{file_to_fill, misspelled, random_file, weighted, Random};
 use reader::{read, Case, Fields, Held, F, KINDS, P, ROOM, T};
 use rooms::any_rooms;
 use shapes::{endless_guards, shapes, GUARD_CASES, SHAPES};
@@ -24,9 +28,10 @@ use std::process::exit;
 use written::Writings;
 
 const TWELVE: &[u8] = include_bytes!("../../crates/plancheck/stdin");
-/// Steps of unrolling allowed for a random case, and for a stored one.
+/// Steps of unrolling allowed for a random case, for a stored one that is answered, and for one that is filled.
 const STEPS: u64 = 500_000;
 const STORED_STEPS: u64 = 10_000_000;
+const FILLED_STEPS: u64 = 2_000_000;
 /// A mistake is tried until so many cases have found it.
 const FOUND: usize = 3;
 /// For so many cases, a file of any numbers is written back too.
@@ -165,16 +170,33 @@ fn cases(count: usize, seed: u64) -> bool {
     seen.enough() && written
 }
 
-/// The stored cases, answered and written back.
+/// Random files, filled.
+fn fillings(count: usize, seed: u64) -> bool {
+    let mut r = Random(seed);
+    let mut fillings = Fillings::default();
+    for number in 0..count {
+        if !fillings.add(&file_to_fill(&mut r), STEPS) {
+            println!("unroll: case {number} to fill of seed {seed} isn't filled rightly");
+            return false;
+        }
+    }
+    fillings.show();
+    fillings.enough()
+}
+
+/// The stored cases, answered, written back and filled.
 fn stored() -> bool {
     let cases = library::stored();
     let answers = library::compared("unroll", &cases, |bytes| Some(check(bytes, Mistake::Nothing, STORED_STEPS).ok()?.0));
     let mut writings = Writings::new(FEW);
+    let mut fillings = Fillings::default();
     for Stored { expected, bytes, .. } in &cases {
         writings.add(bytes, &read(bytes, Mistake::Nothing), *expected);
+        fillings.add(bytes, FILLED_STEPS);
     }
     println!("{}", writings.passed("stored cases"));
-    writings.all_passed() && answers
+    println!("{}", fillings.passed("stored cases"));
+    writings.all_passed() && fillings.all_passed() && answers
 }
 
 fn main() {
@@ -182,8 +204,9 @@ fn main() {
     let words: Vec<&str> = words.iter().map(String::as_str).collect();
     let right = match words[..] {
         ["cases", count, seed] => cases(count.parse().expect("a count"), seed.parse().expect("a seed")),
+        ["fill", count, seed] => fillings(count.parse().expect("a count"), seed.parse().expect("a seed")),
         ["stored"] => stored(),
-        _ => panic!("unroll cases COUNT SEED, or unroll stored"),
+        _ => panic!("unroll cases COUNT SEED, unroll fill COUNT SEED, or unroll stored"),
     };
     if !right {
         exit(1);

@@ -1,5 +1,6 @@
 //! The mistakes that can be planted in the separate checker: those that are easily made in a checker with formulas for loops, and others.
-//! What is a wrong formula there is put here as the same wrong result of the unrolling. Then those that can be planted in the separate speller.
+//! What is a wrong formula there is put here as the same wrong result of the unrolling. Then those that can be planted in the separate speller,
+//! and in the separate filler.
 
 /// An enum of mistakes, and the list of them with their words.
 macro_rules! mistakes {
@@ -109,4 +110,35 @@ mistakes! { Slip, SLIPS;
     ExactRefused: "41: told of a buffer that is exactly as long as the case",
     NeededTold: "41: the count that is needed told",
     RecordsTold: "the count of records told, not of bytes",
+}
+
+mistakes! { Lapse, LAPSES;
+    OldBelow: "the truth of the sentences below read from the old marks",
+    OldKept: "the old marks kept beside the right ones",
+    PlaceFirst: "37: the smallest place told, and its smallest sentence",
+    LargestSentence: "37: the largest sentence told",
+    LargestPlace: "37: the largest place of the sentence told",
+    Swapped: "37: the sentence told before the place",
+    ChangesTrue: "a truth that changes taken for true",
+    ChangesFalse: "a truth that changes taken for false",
+    FirstRound: "only the first round looked at",
+    LastRound: "only the last round looked at",
+    EndlessOnce: "the later rounds of the endless loop forgotten",
+    PlaceBefore: "the marks of the place before",
+    PlaceAfter: "the marks of the place after",
+    NextStays: "next: the last place of a loop looks at its first place in the last round too",
+    NextLeaves: "next: the last place of a loop looks past the loop in every round",
+    BitAbove: "the bit above the last sentence set",
+    ReachedOnly: "only the sentences that the root reaches filled in",
+    ReachedTold: "37: told only of sentences that the root reaches",
+    RootLeft: "the root's own marks left as they were",
+    WrongRefused: "34 told of wrong old marks",
+    RootAsked: "35 told where the root is false at the start",
+    GuardsLate: "37 told before 33",
+    GuardsIgnored: "a plan with a guard that fails filled in",
+    RefusedAltered: "a refused case given, with the marks that were filled in so far",
+    RefusedGiven: "a refused case given as it was",
+    RecordsTold: "the count of records told, not of bytes",
+    LineCounted: "the bytes of the line counted",
+    LineLost: "the file without the line before it",
 }

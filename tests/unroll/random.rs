@@ -70,28 +70,67 @@ fn weights(r: &mut Random) -> Fields {
     }))
 }
 
+/// Any bytes.
+fn any_bytes(r: &mut Random) -> Vec<u8> {
+    let count = r.below(300);
+    (0..count).map(|_| r.below(256) as u8).collect()
+}
+
 /// The file of a random plan, half of them damaged; a few are any bytes.
 pub fn random_file(r: &mut Random) -> Vec<u8> {
     if r.chance(1) {
-        let count = r.below(300);
-        return (0..count).map(|_| r.below(256) as u8).collect();
+        return any_bytes(r);
     }
     let (wide, slips) = (r.chance(8), r.chance(15));
-    let case = Maker { r, case: Case::default(), wide, slips }.plan();
-    let records = (S..=P).flat_map(|kind| case.0[kind].iter().map(move |item| record(kind, item)));
-    let bytes = records.collect::<Vec<_>>().concat();
+    let case = Maker { r, case: Case::default(), wide, slips, small: false }.plan();
     let times = if r.chance(50) { r.pick(&[1, 1, 1, 2]) } else { 0 };
-    let mut file = Damaged { r, case: &case, bytes };
+    damaged(r, &case, times)
+}
+
+/// The file of a random plan whose marks are to be filled in: any marks, and often a truth that changes; half of them small. Some are damaged, and
+/// a few are any bytes.
+pub fn file_to_fill(r: &mut Random) -> Vec<u8> {
+    if r.chance(1) {
+        return any_bytes(r);
+    }
+    let (wide, slips, small) = (r.chance(8), r.chance(75), r.chance(60));
+    let mut case = Maker { r, case: Case::default(), wide, slips, small }.plan();
+    marked_anew(r, &mut case);
+    let times = r.chance(20) as usize;
+    damaged(r, &case, times)
+}
+
+/// Marks of all sorts: the right ones, none, all, some that are a bit off, and any.
+fn marked_anew(r: &mut Random, case: &mut Case) {
+    let (sort, sentences) = (r.below(10), case.0[F].len());
+    for place in &mut case.0[P] {
+        let any = r.below(1 << sentences) as i64;
+        place[3] = place[3].map(|marks| match sort {
+            0 | 1 => marks,
+            2 => 0,
+            3 => (1 << sentences) - 1,
+            4 | 5 if r.chance(30) && sentences > 0 => marks ^ 1 << r.below(sentences),
+            4 | 5 => marks,
+            _ => any,
+        });
+    }
+}
+
+/// The file of a case, damaged so many times.
+fn damaged(r: &mut Random, case: &Case, times: usize) -> Vec<u8> {
+    let mut file = Damaged { r, case, bytes: writer::case(case) };
     (0..times).for_each(|_| file.damage());
     file.bytes
 }
 
-/// A plan in the making; `wide` for large numbers, `slips` for guards and sentences that may not be the same in all rounds.
+/// A plan in the making; `wide` for large numbers, `slips` for guards and sentences that may not be the same in all rounds, `small` for few places
+/// and sentences.
 struct Maker<'a> {
     r: &'a mut Random,
     case: Case,
     wide: bool,
     slips: bool,
+    small: bool,
 }
 
 impl Maker<'_> {
@@ -105,8 +144,11 @@ impl Maker<'_> {
         if self.r.chance(50) {
             self.case.0[W].push(weights(self.r));
         }
-        let longest = if self.r.chance(1) { 16 } else { 3 };
-        let loops = if self.r.chance(5) { 0 } else { self.r.pick(&[1, 1, 2, 2, 2, 3]) };
+        let (longest, most_loops): (i64, &[usize]) = match self.small {
+            true => (2, &[1]),
+            false => (if self.r.chance(1) { 16 } else { 3 }, &[1, 1, 2, 2, 2, 3]),
+        };
+        let loops = if self.r.chance(5) { 0 } else { self.r.pick(most_loops) };
         let main_loop = self.r.below(loops.max(1));
         for at in 0..loops {
             self.outside();
@@ -123,7 +165,7 @@ impl Maker<'_> {
 
     /// No place outside loops, or a few.
     fn outside(&mut self) {
-        for _ in 0..self.r.pick(&[0, 0, 0, 1, 1, 2]) {
+        for _ in 0..self.r.pick(if self.small { &[0, 0, 0, 1] } else { &[0, 0, 0, 1, 1, 2] }) {
             self.stretch(1, None);
         }
     }
@@ -227,7 +269,7 @@ impl Maker<'_> {
 
     /// Sentences that are the same at all moments of each place, but for slips; then the marks.
     fn sentences(&mut self, run: &Run) {
-        let most = if self.r.chance(4) { 1 } else { self.r.pick(&[5, 6, 7, 8, 9, 10, 12, 19]) };
+        let most = if self.r.chance(4) { 1 } else { self.r.pick(if self.small { &[2, 2, 3, 4] } else { &[5, 6, 7, 8, 9, 10, 12, 19] }) };
         let mut truths: Vec<Vec<bool>> = Vec::new();
         for _ in 0..4 * most {
             if truths.len() >= most {

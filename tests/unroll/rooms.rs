@@ -1,6 +1,5 @@
 //! Random cases to be written back: any numbers that may be taken, in rooms from empty to full. What such a plan means doesn't matter, and few are
 //! finished.
-use crate::mistakes::Slip;
 use crate::random::{Random, HIGHEST, LOWEST};
 use crate::reader::*;
 use crate::writer;
@@ -156,7 +155,7 @@ fn any_case(r: &mut Random) -> Case {
 
 /// The file of such a case; a third of them are cut, have a byte changed, or a record twice.
 pub fn any_rooms(r: &mut Random) -> Vec<u8> {
-    let mut bytes = writer::file(&Held { case: any_case(r), refused: None }, Slip::Nothing);
+    let mut bytes = writer::case(&any_case(r));
     if bytes.is_empty() || r.chance(67) {
         return bytes;
     }

@@ -74,11 +74,20 @@ fn planted_case(held: &Held, slip: Slip) -> Case {
     case
 }
 
+/// The records of a case, kind by kind.
+fn records(case: &Case, slip: Slip) -> Vec<u8> {
+    let records = order(slip).into_iter().flat_map(|kind| case.0[kind].iter().map(move |item| record(kind, item, slip)));
+    records.collect::<Vec<_>>().concat()
+}
+
+/// The bytes of a case.
+pub fn case(case: &Case) -> Vec<u8> {
+    records(case, Nothing)
+}
+
 /// The bytes of the case that is held.
 pub fn file(held: &Held, slip: Slip) -> Vec<u8> {
-    let case = planted_case(held, slip);
-    let records = order(slip).into_iter().flat_map(|kind| case.0[kind].iter().map(move |item| record(kind, item, slip)));
-    let mut bytes = records.collect::<Vec<_>>().concat();
+    let mut bytes = records(&planted_case(held, slip), slip);
     match slip {
         LastLeftOut => bytes.truncate(bytes.len().saturating_sub(LENGTH)),
         LineFeedLost => bytes.iter_mut().rev().take(1).for_each(|last| *last = b' '),

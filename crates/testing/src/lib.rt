@@ -12,7 +12,7 @@ use answers::Told;
 use collector::Case;
 
 // The case that is held after a file is taken, up to the first record that is refused.
-fn held(src: &[u8]) -> Case
+pub fn held(src: &[u8]) -> Case
     ensures { λ r. ⌜ r ≡ collectedOf emptyCase (now (src .entry)) .case ⌝ }
     ensures { λ r. ⌜ Sound r ⌝ }
 {
