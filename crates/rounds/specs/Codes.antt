@@ -2,13 +2,14 @@
 use mathlib.Core.Path.{_≡_, refl, sym, _∙_, ap, ap₂, subst}
 use mathlib.Core.Logic.{⊎-elim}
 use mathlib.Core.List.{List}
-use mathlib.Core.Bool.{Bool, true, false, cond, not, _||_, true≢false}
+use mathlib.Core.Bool.{Bool, true, false, cond, not, _||_, or-assoc, or-comm, or-false}
 use Prim.Native.Nat.{ℕ, zero, suc, _+_, _-_, _≤_, _<_}
 use native.Mathlib.Nat.{eq-or-lt-of-le}
 use native.Mathlib.Omega.{arith}
 use lib.Dec.{ltb}
 use lib.ListN.{length, getD, set, replicate}
-use borrow.Author.Tests.{lt-ltb, le-ltb}
+use borrow.Author.Tests.{lt-ltb, le-ltb, not-false}
+use Rattle.laws.specs.Tests.{neither}
 use Rattle.laws.specs.Tab.{entry}
 use Rattle.laws.specs.Ready.{Ready, ready-none, ready-more, ready-all, Behind, behind-none, behind-more, behind-all}
 use Rattle.kinds.specs.declared.Kind.the-variants as kind
@@ -40,11 +41,9 @@ module _ (ok : ℕ → Bool) (n : ℕ) where
 pub none-off : (ok : ℕ → Bool) (p d q : ℕ) → p ≤ q → q < p + d → someOff ok p d ≡ false → ok q ≡ true
 unfolding someOff
 none-off ok p zero q a b e = absurd (omega arith)
-none-off ok p (suc d) q a b e = ⊎-elim (λ w. subst (λ k. ok k ≡ true) w (both (ok p) e .0)) (λ w. none-off ok (suc p) d q w (omega arith) (both (ok p) e .1)) (eq-or-lt-of-le a)
-  where
-    both : (t : Bool) {s : Bool} → (not t || s) ≡ false → (t ≡ true) × (s ≡ false)
-    both true h = (refl, h)
-    both false h = absurd (true≢false h)
+none-off ok p (suc d) q a b e =
+    let h = neither (not (ok p)) (someOff ok (suc p) d) e in
+    ⊎-elim (λ w. subst (λ k. ok k ≡ true) w (not-false (ok p) (h .0))) (λ w. none-off ok (suc p) d q w (omega arith) (h .1)) (eq-or-lt-of-le a)
 
 -- there is one where the first is among them
 pub some-first : (ok : ℕ → Bool) (p d : ℕ) → someOff ok p d ≡ ltb (firstOff ok p d) (p + d)
@@ -55,24 +54,6 @@ some-first ok p (suc d) = let e : suc p + d ≡ p + suc d = omega arith in by (o
     by : (t : Bool) (q : ℕ) {s : Bool} → s ≡ ltb q (p + suc d) → (not t || s) ≡ ltb (cond t q p) (p + suc d)
     by true q h = h
     by false q h = sym (lt-ltb p (p + suc d) (omega arith))
-
-pub or-false : (a : Bool) → (a || false) ≡ a
-or-false true = refl
-or-false false = refl
-
-pub or-true : (a : Bool) → (a || true) ≡ true
-or-true true = refl
-or-true false = refl
-
-or-moves : (a b c : Bool) → ((a || b) || c) ≡ (a || (b || c))
-or-moves true b c = refl
-or-moves false b c = refl
-
-or-swaps : (a b : Bool) → (a || b) ≡ (b || a)
-or-swaps true true = refl
-or-swaps true false = refl
-or-swaps false true = refl
-or-swaps false false = refl
 
 -- ---- a mark agrees where it is right
 
@@ -115,7 +96,7 @@ module _ (x : Items) (i : ℕ) (f : ℕ → Throughout) where
   pub up-more : {l : List ℕ} (off : Bool) {o b : Bool} {p v : ℕ} → p < n → p < roomOf kind.Place → v ≡ codeOf (f p) → b ≡ marked x i p
       → o ≡ (off || not (agrees v b)) → UpTo l off p → UpTo (set l p v) o (p + 1)
   up-more off {p = p} h r e k w u =
-      (ready-more (e ∙ sym (code-held p h)) r (u .0), rw (w, e, k) (or-moves off (not (ok p)) _ ∙ ap (λ t. off || t) (sym (some-turn ok n p h)) ∙ u .1))
+      (ready-more (e ∙ sym (code-held p h)) r (u .0), rw (w, e, k) (or-assoc off (not (ok p)) _ ∙ ap (λ t. off || t) (sym (some-turn ok n p h)) ∙ u .1))
 
   pub up-all : {l : List ℕ} {off : Bool} {p : ℕ} → n ≤ p → UpTo l off p → record { at = l; off = off } ≡ rowOf x i f
   up-all {off = off} {p = p} h u =
@@ -135,7 +116,7 @@ module _ (x : Items) (i : ℕ) (f : ℕ → Throughout) where
       let q : p ≡ (p - 1) + 1 = omega arith in (
         behind-more (e ∙ sym (code-held (p - 1) (omega arith))) a r (u .0),
         rw (w, e, k)
-            (or-swaps off (not (ok (p - 1))) ∙ ap (λ t. not (ok (p - 1)) || t) (u .1 ∙ ap (λ k. someOff ok k (n - k)) q) ∙ sym (some-turn ok n (p - 1) (omega arith))),
+            (or-comm off (not (ok (p - 1))) ∙ ap (λ t. not (ok (p - 1)) || t) (u .1 ∙ ap (λ k. someOff ok k (n - k)) q) ∙ sym (some-turn ok n (p - 1) (omega arith))),
       )
 
   pub down-all : {l : List ℕ} {off : Bool} → DownTo l off 0 → record { at = l; off = off } ≡ rowOf x i f

@@ -1,11 +1,10 @@
 -- By whether the code is the mark's. Assumes nothing.
 use mathlib.Core.Path.{_≡_, sym, _∙_, ap}
-use mathlib.Core.Bool.{true, false, not, _||_}
+use mathlib.Core.Bool.{true, false, not, _||_, or-false, or-true}
 use lib.Dec.{eqb}
 use borrow.Author.Needs.{needs}
 use borrow.Author.Tests.{eq-eqb, ne-eqb}
 use Rattle.rounds.specs.Rows.{markCode}
-use Rattle.rounds.specs.Codes.{or-false, or-true}
 use Rattle.rounds.proofs.off_by.Statement.{statement}
 use Rattle.rounds.proofs.off_by.Tie as tie
 
