@@ -1,4 +1,4 @@
--- The documents' numbers for every answer of the checker, to a record, of a judgement, of filling in the marks and of writing a case back, and the order in which
+-- The documents' numbers for every answer of the checker, to a record, of a judgement, of filling in the marks, of a loop's rounds and of writing a case back, and the order in which
 -- refusals are tested. No other place has them.
 use mathlib.Core.List.{List, [], _∷_}
 use mathlib.Core.Bool.{Bool, true, false}
@@ -8,10 +8,14 @@ use lib.ListN.{length, getD}
 use Rattle.laws.specs.Lowest.{lowest}
 use Rattle.answers.specs.declared.Answer.{Answer}
 use Rattle.answers.specs.declared.Answer.the-variants.{Taken, NotARecord, NoLineFeed, NoSuchKind, Misspelled, Misfilled, OutOfRange, OutOfOrder, NoRoom, NotThere, Misplaced, WrongWayIn}
-use Rattle.answers.specs.declared.Filling.the-variants.{Marked, Refused, Changes}
+use Rattle.answers.specs.declared.Filling.the-variants as filling
 use Rattle.answers.specs.declared.Filling.{Filling}
 use Rattle.answers.specs.declared.Judgement.the-variants.{Accepted, GuardFails, RootUnmarked, Unconnected, Unfinished, WrongMark, WrongStart}
 use Rattle.answers.specs.declared.Judgement.{Judgement}
+use Rattle.answers.specs.declared.Setting.{Setting}
+use Rattle.answers.specs.declared.Setting.the-variants as setting
+use Rattle.answers.specs.declared.Span.{Span}
+use Rattle.answers.specs.declared.Span.the-variants as span
 use Rattle.answers.specs.declared.Told.{Told}
 use Rattle.answers.specs.declared.Written.the-variants.{All, TooShort}
 use Rattle.answers.specs.declared.Written.{Written}
@@ -87,9 +91,29 @@ numbersOf (RootUnmarked r) = numbers 35 0 r
 
 -- the numbers of filling in the marks: those of the judgement, and 37 with the place and the sentence
 abbrev pub fillingNumbers : Filling → Told
-fillingNumbers Marked = numbers 0 0 0
-fillingNumbers (Refused a) = numbersOf a
-fillingNumbers (Changes p i) = numbers 37 (p .0) i
+fillingNumbers filling.Marked = numbers 0 0 0
+fillingNumbers (filling.Refused a) = numbersOf a
+fillingNumbers (filling.Changes p i) = numbers 37 (p .0) i
+
+-- the numbers of finding the rounds that a loop may have: the least and the greatest, those of the judgement, and 27 with the loop
+abbrev pub spanNumbers : Span → Told
+spanNumbers (span.Between a b) = numbers 0 a b
+spanNumbers (span.Refused a) = numbersOf a
+spanNumbers (span.NoLoop k) = numbers 27 k 0
+
+-- whether a loop's rounds are set
+abbrev pub isSet : Setting → Bool
+isSet setting.Set = true
+isSet (setting.Unfinished n) = false
+isSet (setting.NoLoop k) = false
+isSet (setting.OutOfRange r) = false
+
+-- the numbers of setting a loop's rounds: 24 with the number of records, 27 with the loop, 16 with the record of the loop's first place and the rounds field
+abbrev pub settingNumbers : Setting → Told
+settingNumbers setting.Set = numbers 0 0 0
+settingNumbers (setting.Unfinished n) = numbers 24 n 0
+settingNumbers (setting.NoLoop k) = numbers 27 k 0
+settingNumbers (setting.OutOfRange r) = numbers 16 r 5
 
 -- the numbers of what is written: 0 with the number of bytes, 41 with 0
 abbrev pub writtenNumbers : Written → Told

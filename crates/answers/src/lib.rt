@@ -1,6 +1,7 @@
-// Every answer of the checker: to a record, of a judgement, of filling in the marks and of writing a case back; with the three numbers that the documents have for it.
+// Every answer of the checker: to a record, of a judgement, of filling in the marks, of a loop's rounds and of writing a case back; with the three numbers that the documents have
+// for it.
 ghost use mathlib.Core.Path.{_≡_};
-ghost use Rattle.answers.specs.Answers.{isTaken, numberOf, thirdOf, numbersOf, fillingNumbers, writtenNumbers};
+ghost use Rattle.answers.specs.Answers.{isTaken, numberOf, thirdOf, numbers, numbersOf, fillingNumbers, spanNumbers, isSet, settingNumbers, writtenNumbers};
 use items::PlaceNo;
 
 // What a record is answered; with a field, counted from 1, where one is named, and for a field that is misspelled the place of its bad byte in the record.
@@ -45,6 +46,28 @@ pub enum Filling {
     Refused(Judgement),
     // 37: the place, and the sentence whose truth changes between its rounds
     Changes(PlaceNo, u8),
+}
+
+// What finding the rounds tells that a loop may have.
+pub enum Span {
+    // 0: the least and the greatest that are accepted
+    Between(u32, u32),
+    // the judgement's own result, of a case that isn't accepted
+    Refused(Judgement),
+    // 27: the loop, which is absent or endless
+    NoLoop(usize),
+}
+
+// What setting a loop's rounds tells.
+pub enum Setting {
+    // 0: they are set
+    Set,
+    // 24, as in judging: the number of records held
+    Unfinished(usize),
+    // 27: the loop, which is absent or endless
+    NoLoop(usize),
+    // 16: the record of the loop's first place, whose field 5 has no such rounds
+    OutOfRange(usize),
 }
 
 // What writing a case back tells.
@@ -181,6 +204,64 @@ impl Filling {
                 result: 37,
                 second: p.0,
                 third: i as usize,
+            },
+        }
+    }
+}
+
+// The three numbers of the least and the greatest rounds that are accepted.
+fn accepted(least: u32, greatest: u32) -> Told
+    ensures { λ r. ⌜ r ≡ numbers 0 least greatest ⌝ }
+{
+    Told {
+        result: 0,
+        second: least as usize,
+        third: greatest as usize,
+    }
+}
+
+impl Span {
+    // The three numbers of finding the rounds that a loop may have.
+    pub fn told(self) -> Told
+        ensures { λ r. ⌜ r ≡ spanNumbers self ⌝ }
+    {
+        match self {
+            Span::Between(least, greatest) => accepted(least, greatest),
+            Span::Refused(judgement) => judgement.told(),
+            Span::NoLoop(k) => Told {
+                result: 27,
+                second: k,
+                third: 0,
+            },
+        }
+    }
+}
+
+impl Setting {
+    // Whether the rounds are set.
+    pub fn is_set(self) -> bool
+        ensures { λ r. ⌜ r ≡ isSet self ⌝ }
+    {
+        match self {
+            Setting::Set => true,
+            Setting::Unfinished(_) => false,
+            Setting::NoLoop(_) => false,
+            Setting::OutOfRange(_) => false,
+        }
+    }
+
+    // The three numbers of setting a loop's rounds.
+    pub fn told(self) -> Told
+        ensures { λ r. ⌜ r ≡ settingNumbers self ⌝ }
+    {
+        match self {
+            Setting::Set => Judgement::Accepted.told(),
+            Setting::Unfinished(n) => Judgement::Unfinished(n).told(),
+            Setting::NoLoop(k) => Span::NoLoop(k).told(),
+            Setting::OutOfRange(r) => Told {
+                result: 16,
+                second: r,
+                third: 5,
             },
         }
     }

@@ -4,9 +4,8 @@ use mathlib.Core.Logic.{_⊎_, inl, inr, ⊎-elim}
 use mathlib.Core.Bool.{Bool, true, false, cond, _&&_, false≢true}
 use Prim.Native.Nat.{ℕ, _-_}
 use lib.Dec.{eqb, ltb}
-use lib.ListN.{length, getD}
+use lib.ListN.{getD}
 use borrow.Author.Tests.{eq-eqb, ne-eqb}
-use Rattle.laws.specs.Tests.{tells-lt, tells-and}
 use Rattle.kinds.specs.declared.Kind.the-variants as kind
 use Rattle.kinds.specs.Kinds.{countsTotal}
 use Rattle.items.specs.declared.Place.{Place}
@@ -14,16 +13,16 @@ use Rattle.items.specs.Lists.{Items, noItem}
 use Rattle.answers.specs.declared.Judgement.{Judgement}
 use Rattle.answers.specs.declared.Judgement.the-variants.{Accepted, Unfinished, WrongStart, Unconnected, GuardFails, WrongMark, RootUnmarked}
 use Rattle.rules.specs.Files.{itemCount}
-use Rattle.standing.specs.Standing.{noLoops, loopsFrom, isClosed}
+use Rattle.standing.specs.Standing.{isClosed}
 use Rattle.collector.specs.declared.Case.{Case}
 use Rattle.collector.specs.Cases.{itemsOf}
 use Rattle.collector.specs.Sound.{Sound}
-use Rattle.rules_laws.specs.Loops.{closed-is}
 use Rattle.rules_laws.specs.Held.{counted, counts-are, loops-are}
 use Rattle.meaning.specs.Run.{Way}
 use Rattle.meaning.specs.Truth.{bit}
 use Rattle.meaning.specs.Judged.{startOf, stateAt, waysOf, Test, testsOf, Mark, marksOf, marked, root, Finished}
 use Rattle.verdict.specs.Verdict.{Found, nowhere, at, firstNot, connects, passes, markRight, finished, judgementBy, beforeMarks, verdict}
+use Rattle.verdict_laws.specs.Judge.{tells-finished}
 use Rattle.tables.specs.Reads.{at-places}
 use Rattle.guards.specs.declared.Search.{Search}
 use Rattle.guards.specs.declared.Search.the-variants.{Nowhere, At}
@@ -114,18 +113,17 @@ module _ {c : Case} (s : Sound c) where
   abbrev isFinished : Bool
   isFinished = ltb 0 (c .count .sentences) && isClosed (c .loops) (c .count .places)
 
-  finished-is : isFinished ≡ finished x
+  pub finished-is : isFinished ≡ finished x
   finished-is = rw (loops-are s, counted c s kind.Sentence, counted c s kind.Place)
 
   finished-tells : finished x ≡ true → Finished x
-  finished-tells =
-      tells-and (ltb 0 (length (x .sentences))) (isClosed (loopsFrom noLoops 0 (x .places)) (length (x .places))) (tells-lt 0 (length (x .sentences))) (closed-is x (s .loops)) .0
+  finished-tells = tells-finished c s .0
 
   -- where none of 24 to 33 applies, there is a sentence and the endless loop has closed
   pub early-finished : beforeMarks x (startOf x) ≡ Accepted → Finished x
   early-finished e = finished-tells (at-marks x e .0)
 
-  held-is : countsTotal (c .count) ≡ itemCount x
+  pub held-is : countsTotal (c .count) ≡ itemCount x
   held-is = ap countsTotal (counts-are c s)
 
   early : beforeMarks x (startOf x) ≡ cond isFinished (cond (eqb (first .state) 0) (waysAnswer x) WrongStart) (Unfinished (countsTotal (c .count)))

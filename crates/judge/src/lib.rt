@@ -16,7 +16,7 @@ use standing::Loops;
 use tables::Tables;
 
 // Whether there is a sentence, and the endless loop has closed.
-fn finished(count: Counts, loops: Loops) -> bool
+pub fn finished(count: Counts, loops: Loops) -> bool
     ensures { λ r. ⌜ r ≡ (ltb 0 (count .sentences) && isClosed loops (count .places)) ⌝ }
 {
     if 0 < count.sentences {

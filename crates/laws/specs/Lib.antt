@@ -13,4 +13,6 @@ pub mod Parts
 pub mod Tab
 pub mod Ready
 pub mod Lowest
+pub mod Halving
+pub mod Halved
 pub mod Down

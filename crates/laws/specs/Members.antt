@@ -39,6 +39,11 @@ module _ {A : Type 0} {P : A → Type 0} where
   has-all [] f = none
   has-all (a ∷ l) f = also (f a (List·Memᴰ·head refl)) (has-all l (λ b m. f b (List·Memᴰ·tail m)))
 
+pub has-at : {A : Type 0} (l : List A) (j : ℕ) (d : A) → j < length l → Has l (getD l j d)
+has-at [] j d h = absurd (omega arith)
+has-at (a ∷ l) zero d h = List·Memᴰ·head refl
+has-at (a ∷ l) (suc j) d h = List·Memᴰ·tail (has-at l j d (omega arith))
+
 pub all-by : {A : Type 0} {P : A → Type 0} (d : A) (l : List A) → ((j : ℕ) → j < length l → P (getD l j d)) → All P l
 all-by d [] f = none
 all-by d (a ∷ l) f = also (f 0 (omega arith)) (all-by d l (λ j h. f (suc j) (omega arith)))

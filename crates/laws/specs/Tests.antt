@@ -11,6 +11,11 @@ pub cond-by : {A : Type 0} (P : A → Type 0) (t : Bool) {x y : A} → (t ≡ tr
 cond-by P true f g = f refl
 cond-by P false f g = g refl
 
+-- what follows either way
+pub by-test : {A : Type 0} (t : Bool) → (t ≡ true → A) → (t ≡ false → A) → A
+by-test true f g = f refl
+by-test false f g = g refl
+
 pub neither : (t u : Bool) → (t || u) ≡ false → (t ≡ false) × (u ≡ false)
 neither true u e = absurd (true≢false e)
 neither false u e = (refl, e)

@@ -6,4 +6,5 @@ pub mod Marking
 pub mod Paper
 pub mod Files
 pub mod Rounds
+pub mod Spans
 pub mod Listed

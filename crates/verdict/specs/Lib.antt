@@ -3,4 +3,5 @@ pub mod Forward
 pub mod Best
 pub mod Verdict
 pub mod Fill
+pub mod Span
 pub mod Labels

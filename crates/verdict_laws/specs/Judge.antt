@@ -9,7 +9,7 @@ use native.Mathlib.Decide.{decLt}
 use lib.Dec.{eqb, ltb}
 use lib.ListN.{length, getD}
 use borrow.Author.Tests.{eqb-true, eq-eqb}
-use Rattle.laws.specs.Tests.{tells-and, tells-lt, tells-not}
+use Rattle.laws.specs.Tests.{Tells, tells-and, tells-lt, tells-not}
 use Rattle.laws.specs.All.{All, from, gather}
 use Rattle.laws.specs.Members.{Has, has-all, gather-has, all-pairs}
 use Rattle.kinds.specs.declared.Kind.the-variants as kind
@@ -182,10 +182,15 @@ module _ (x : Items) (θ : Valuation) where
   answer-is true true nowhere nowhere nowhere false F S W T K R = (((((F .0 refl, S .0 refl), W), T (F .0 refl)), K (F .0 refl)), R, refl)
   answer-is true true nowhere nowhere nowhere true F S W T K R = (((((F .0 refl, S .0 refl), W), T (F .0 refl)), K (F .0 refl)), R)
 
+-- the test for 24 tells whether it doesn't apply
+pub tells-finished : (c : Case) → Sound c → Tells (finished (itemsOf c)) (Finished (itemsOf c))
+tells-finished c s =
+    let x = itemsOf c in
+    tells-and (ltb 0 (length (x .sentences))) (isClosed (loopsFrom noLoops 0 (x .places)) (length (x .places))) (tells-lt 0 (length (x .sentences))) (closed-is x (s .loops))
+
 pub judged : (c : Case) → Sound c → (θ : Valuation) → Judged (itemsOf c) θ (verdict (itemsOf c) θ)
 unfolding verdict
 judged c s θ =
     let x = itemsOf c in
     answer-is x θ (finished x) (eqb (stateAt x 0) 0) (firstNot (connects x) (waysOf x)) (firstNot (passes x θ) (testsOf x)) (firstNot (markRight x θ) (marksOf x)) (marked x (root x) 0)
-    (tells-and (ltb 0 (length (x .sentences))) (isClosed (loopsFrom noLoops 0 (x .places)) (length (x .places))) (tells-lt 0 (length (x .sentences))) (closed-is x (s .loops)))
-    (tells-eq (stateAt x 0) 0) (connects-finds x) (λ h. passes-finds x (facts c s) (h .1) θ) (λ h. right-finds x (facts c s) (h .1) θ) refl
+    (tells-finished c s) (tells-eq (stateAt x 0) 0) (connects-finds x) (λ h. passes-finds x (facts c s) (h .1) θ) (λ h. right-finds x (facts c s) (h .1) θ) refl
