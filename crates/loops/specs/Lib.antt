@@ -1,0 +1,4 @@
+pub mod Planned
+pub mod Theorems
+pub mod Stages
+pub mod Halves

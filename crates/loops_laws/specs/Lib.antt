@@ -1,0 +1,5 @@
+pub mod Numbered
+pub mod Held
+pub mod Spans
+pub mod Set
+pub mod File
