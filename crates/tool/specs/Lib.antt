@@ -1,1 +1,3 @@
 pub mod Outputs
+pub mod Theorems
+pub mod Worked

@@ -1,20 +1,11 @@
 -- `tool::fill` meets its contract: the records of the file are taken; where one is refused its line is printed, and else what the word makes of the
 -- case, which is sound. Assumes nothing.
 use borrow.Author.Needs.{needs}
-use mathlib.Core.Path.{_≡_, _∙_, sym, ap}
 use Rattle.laws.specs.All.{sumOver}
-use Rattle.collector.specs.Cases.{emptyCase}
-use Rattle.collector.specs.Taking.{collectedOf}
-use Rattle.rules_laws.specs.Theorems.{sound}
-use Rattle.output.specs.Line.{lineOf}
 use Rattle.tool.specs.Outputs.{caseFilled, fillOutput}
-use Rattle.tool.proofs.Laws.{printed-as, output-by, first-bytes}
+use Rattle.tool.proofs.Laws.{collected-sound, taken-printed, refused-printed}
 use Rattle.tool.proofs.fill.Statement.{statement}
 use Rattle.tool.proofs.fill.Tie as tie
-
--- what is collected is the file's
-collected-of : (c : tie.After-take-all) → c .take-all .result ≡ collectedOf emptyCase (c .before .before .before .before .args .src .now)
-collected-of c = c .take-all .ensures ∙ ap (λ e. collectedOf e (c .before .before .before .before .args .src .now)) (c .before .empty .ensures)
 
 empty-requires : tie.Need-empty-requires
 empty-requires c κs = search needs
@@ -26,7 +17,9 @@ is-taken-requires : tie.Need-is-taken-requires
 is-taken-requires c κs = search needs
 
 fill-case-requires : tie.Need-fill-case-requires
-fill-case-requires c κs = rw (collected-of (c .before .before .before)) (sound _)
+fill-case-requires c κs =
+    let t = c .before .before .before in
+    collected-sound (t .before .before .before .before .args .src .now) (t .before .empty .ensures) (t .take-all .ensures)
 
 same-length : tie.Need-same-length
 same-length c = search needs
@@ -37,9 +30,9 @@ returns c =
     let w = c .before .before in
     let i = w .before .before in
     let t = i .before in
-    let a = t .before .before .before .before .before .args in
-    let p = printed-as (a .buf .now) (output-by caseFilled (a .src .now) (collected-of (t .before)) (sym (t .is-taken .ensures) ∙ i .if1 .taken)) (w .fill-case .ensures) in
-    (p .0, (p .1 .0, (first-bytes caseFilled (a .src .now), p .1 .1)))
+    let e = t .before .before in
+    let a = e .before .before .before .args in
+    taken-printed (a .src .now) (e .empty .ensures) (t .before .take-all .ensures) caseFilled (a .buf .now) (t .is-taken .ensures) (i .if1 .taken) (w .fill-case .ensures)
 
 refused-requires : tie.Need-refused-requires
 refused-requires c κs = search needs
@@ -57,12 +50,10 @@ returns-2 c =
     let r = w .before .before in
     let i = r .before in
     let t = i .before in
-    let a = t .before .before .before .before .before .args in
-    let p =
-    printed-as (a .buf .now)
-    (output-by caseFilled (a .src .now) (collected-of (t .before)) (sym (t .is-taken .ensures) ∙ i .if1 .left) ∙ sym (ap lineOf (r .refused .ensures)))
-    (w .write-line .ensures) in
-    (p .0, (p .1 .0, (first-bytes caseFilled (a .src .now), p .1 .1)))
+    let e = t .before .before in
+    let a = e .before .before .before .args in
+    refused-printed (a .src .now) (e .empty .ensures) (t .before .take-all .ensures) caseFilled (a .buf .now) (t .is-taken .ensures) (i .if1 .left) (r .refused .ensures)
+    (w .write-line .ensures)
 
 pub fill-spec : {M : Type 1} → statement M
 fill-spec =
