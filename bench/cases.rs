@@ -75,6 +75,11 @@ const SENTENCES: [&str; 20] = [
 /// and twice as many moves, each with two guards: from each state to the next, and back over a loop of four places. Guard 0 is in a sentence
 /// only, the others hold always.
 pub fn plan(states: i64, weights: Option<&str>, sentences: usize, places: i64, rounds: u32) -> Vec<u8> {
+    with_right_marks(file(&records(states, weights, sentences, places, rounds)))
+}
+
+/// The records of that plan, without marks.
+fn records(states: i64, weights: Option<&str>, sentences: usize, places: i64, rounds: u32) -> Vec<String> {
     let mut records: Vec<String> = (0..states).map(|i| format!("S {}", i << 8 | 1 << (i % 8))).collect();
     records.extend(weights.map(str::to_string));
     records.push("G 1 0 0 0 1250".to_string());
@@ -96,12 +101,26 @@ pub fn plan(states: i64, weights: Option<&str>, sentences: usize, places: i64, r
     }
     records.extend(SENTENCES[..sentences].iter().map(|sentence| sentence.to_string()));
     records.extend((0..places).map(|p| place(p, states, places, rounds)));
-    with_right_marks(file(&records))
+    records
 }
 
-/// The full size: 213 records, with weights that the guards allow.
+/// Weights that the guards of the full size allow.
+const WEIGHTS: &str = "W 0 9999999 -999999 9999999";
+
+/// The full size: 213 records.
 pub fn full(rounds: u32) -> Vec<u8> {
-    plan(32, Some("W 0 9999999 -999999 9999999"), 20, 64, rounds)
+    plan(32, Some(WEIGHTS), 20, 64, rounds)
+}
+
+/// The same, but that the first loop must have 2 to 999,999 rounds. 1 is refused by guard 4, which is first tested behind the loop, and 1,000,000 by the
+/// marks of the last sentence: before the next place with proposition 4, of which the first comes behind the loop, proposition 0 is true at 999,999
+/// moments at most. The ends are far from the loop's own rounds, so nearly all that are tried between are accepted, which takes longest.
+pub fn full_between() -> Vec<u8> {
+    let mut records = records(32, Some(WEIGHTS), 20, 64, 500_000);
+    records[33 + 4] = "G 0 0 -1 0 1000400".to_string();
+    let last = ["F 1 0", "F 1 4", "F 6 0 18 -999999 -1 17"].map(str::to_string);
+    records[129 + 17..129 + 20].clone_from_slice(&last);
+    with_right_marks(file(&records))
 }
 
 /// A place of the plan. Loops of four places and lone places come by turns; the last four places are the endless loop.

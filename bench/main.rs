@@ -1,17 +1,18 @@
 //! The proved code against plain Rust that does the same computation: reading and taking a file of 213 records, writing it back, judging a case
-//! file, from its bytes to its result, and filling in the marks of a case. Prints the time of a call and the ratio, measured by turns in one run;
-//! the full size with 1 round against 1,000,000; and filling against judging. `check` only compares the two, on these files and on the stored
-//! cases (standard input, as tests/cases.py prints them), and the bytes that they write; `proved NAME` or `plain NAME` makes one call, for
-//! counting instructions.
+//! file, from its bytes to its result, filling in the marks of a case, and finding the rounds that a loop may have. Prints the time of a call and the
+//! ratio, measured by turns in one run; the full size with 1 round against 1,000,000; and filling and finding against judging. `check` only compares
+//! the two, on these files and on the stored cases (standard input, as tests/cases.py prints them), and the bytes that they write; `proved NAME` or
+//! `plain NAME` makes one call, for counting instructions.
 mod cases;
 #[path = "../tests/library.rs"]
 mod library;
 mod plain;
 mod plain_fill;
 mod plain_judge;
+mod plain_span;
 mod plain_write;
 
-use library::{Buffer, Filled, Stored};
+use library::{Buffer, Output, Stored, Word};
 use plain::{Case, LENGTH};
 use std::hint::black_box;
 use std::process::exit;
@@ -83,6 +84,14 @@ pub fn plain_fill_times(src: &[u8], times: usize) -> usize {
     times
 }
 
+#[no_mangle]
+#[inline(never)]
+pub fn plain_rounds_bytes(src: &[u8], lent: &mut [u8]) -> usize {
+    let line = plain_span::rounds(src, 0);
+    lent[..line.len()].copy_from_slice(&line);
+    line.len()
+}
+
 /// What is called on a file, with a buffer to write into.
 type Call = fn(&[u8], &mut [u8]) -> usize;
 
@@ -118,22 +127,50 @@ fn writing() -> [Bench; 2] {
     let written = |name, proved, plain, expected| Bench { name, file: cases::all_rooms(), proved, plain, expected, calls: 5 };
     [
         written("written once", |file, lent| proved_write_times(file, lent, 1), |file, lent| plain_write_times(file, lent, 1), 1),
-        written("written more", |file, lent| proved_write_times(file, lent, 1 + MORE), |file, lent| plain_write_times(file, lent, 1 + MORE), 1 + MORE),
+        written(
+            "written more",
+            |file, lent| proved_write_times(file, lent, 1 + MORE),
+            |file, lent| plain_write_times(file, lent, 1 + MORE),
+            1 + MORE,
+        ),
     ]
+}
+
+/// The marks of the last place of a file; apart from what is measured, for the counting of instructions.
+fn last_marks(file: &[u8]) -> usize {
+    let mut case = Case::empty();
+    case.take_all(file);
+    case.places[LAST].marks as usize
 }
 
 /// The full size: taken, judged, filled once, and so many times more.
 fn filling() -> [Bench; 4] {
     let (file, calls) = (cases::full(1_000_000), 5);
-    let mut case = Case::empty();
-    case.take_all(&file);
-    let marks = case.places[LAST].marks as usize;
+    let marks = last_marks(&file);
     let of_full = |name, proved, plain, expected| Bench { name, file: file.clone(), proved, plain, expected, calls };
     [
         of_full("full taken", |file, _| proved_marks_held(file), |file, _| plain_marks_held(file), marks),
         of_full("full judged", |file, _| library::result(file), |file, _| plain_case_result(file), 0),
         of_full("filled once", |file, _| proved_fill_times(file, 1), |file, _| plain_fill_times(file, 1), 1),
         of_full("filled more", |file, _| proved_fill_times(file, 1 + MORE), |file, _| plain_fill_times(file, 1 + MORE), 1 + MORE),
+    ]
+}
+
+/// A file whose first loop may have the rounds of this line: taken, judged, and these rounds found; by these names.
+fn finding_of([taken, judged, found]: [&'static str; 3], file: Vec<u8>, line: &str) -> [Bench; 3] {
+    let of_file = |name, proved, plain, expected| Bench { name, file: file.clone(), proved, plain, expected, calls: 3 };
+    [
+        of_file(taken, |file, _| proved_marks_held(file), |file, _| plain_marks_held(file), last_marks(&file)),
+        of_file(judged, |file, _| library::result(file), |file, _| plain_case_result(file), 0),
+        of_file(found, |file, lent| Word::Rounds(0).put(file, lent), plain_rounds_bytes, line.len()),
+    ]
+}
+
+/// The full size with all rounds accepted, and with ends between.
+fn finding() -> [[Bench; 3]; 2] {
+    [
+        finding_of(["all taken", "all judged", "all found"], cases::full(1000), "0 1 1000000\n"),
+        finding_of(["between taken", "between judged", "between found"], cases::full_between(), "0 2 999999\n"),
     ]
 }
 
@@ -175,17 +212,40 @@ fn check_written(benches: &[Bench], stored: &[Stored]) -> bool {
     passed == alike.len()
 }
 
-/// Compares how the two fill the files that are measured, and the stored cases.
-fn check_filled(benches: &[Bench], stored: &[Stored]) -> bool {
+/// What plain Rust puts out for a word.
+fn plain_output(word: Word, file: &[u8]) -> Vec<u8> {
+    match word {
+        Word::Fill => plain_fill::filled(file),
+        Word::Rounds(k) => plain_span::rounds(file, k),
+        Word::Set(k, n) => plain_span::set(file, k, n),
+    }
+}
+
+/// Compares what the two put out for words, of the files that are measured and of the stored cases.
+fn check_words(what: &str, words: &[Word], benches: &[Bench], stored: &[Stored]) -> bool {
     let alike = |file: &[u8]| {
-        let output = plain_fill::filled(file);
-        Filled::of(file, output.len() + LENGTH, output.len()).agrees(&output)
+        words.iter().all(|&word| {
+            let output = plain_output(word, file);
+            Output::of(word, file, output.len() + LENGTH, output.len()).agrees(&output)
+        })
     };
     let files = || benches.iter().map(|bench| &bench.file).chain(stored.iter().map(|case| &case.bytes));
     let (passed, all) = (files().filter(|file| alike(file)).count(), files().count());
-    println!("bench: files whose marks are filled in: {passed} passed, {} failed", all - passed);
+    println!("bench: files {what}: {passed} passed, {} failed", all - passed);
     passed == all
 }
+
+/// Of each file, the rounds of these loops are found, and these are set.
+const ROUNDS: [Word; 8] = [
+    Word::Rounds(0),
+    Word::Rounds(1),
+    Word::Rounds(2),
+    Word::Rounds(64),
+    Word::Set(0, 1_000_000),
+    Word::Set(1, 1),
+    Word::Set(0, 0),
+    Word::Set(2, usize::MAX),
+];
 
 /// Compares the two on the files that are measured, and on the stored cases.
 fn check(benches: &[Bench]) -> bool {
@@ -194,7 +254,8 @@ fn check(benches: &[Bench]) -> bool {
     let stored = library::stored();
     let answers = library::compared("bench", &stored, |bytes| Some(plain_judge::answer(bytes)));
     let written = check_written(benches, &stored);
-    check_filled(benches, &stored) && written && answers
+    let filled = check_words("whose marks are filled in", &[Word::Fill], benches, &stored);
+    check_words("with the rounds of loops found and set", &ROUNDS, benches, &stored) && filled && written && answers
 }
 
 /// Nanoseconds of one call, after a first that isn't counted.
@@ -245,12 +306,19 @@ fn measure_filling(filling: &[&Bench]) {
     println!("filling against judging the filled case, both without the taking: proved {proved:.2} (limit 2), plain Rust {plain:.2}");
 }
 
-fn measure(benches: &[Bench], writing: &[Bench], filling: &[Bench]) {
-    let (benches, writing, filling) = (Vec::from_iter(benches), Vec::from_iter(writing), Vec::from_iter(filling));
+/// Finding alone, without the taking; and that against one judgement of the same case.
+fn measure_finding(what: &str, finding: &[&Bench]) {
+    let [taken, judged, found] = medians(finding, 200)[..] else { panic!("three benchmarks") };
+    let find = [0, 1].map(|side| found[side] - taken[side]);
+    let [proved, plain] = [0, 1].map(|side| find[side] / (judged[side] - taken[side]));
+    show(&format!("full size, {what}, rounds of a loop found"), find);
+    println!("finding against judging the same case, both without the taking: proved {proved:.1} (limit 45), plain Rust {plain:.1}");
+}
+
+fn measure([benches, writing, filling, finding]: [&[Bench]; 4]) {
+    let [benches, writing, filling, finding] = [benches, writing, filling, finding].map(Vec::from_iter);
     let (taken, judged) = benches.split_at(1);
-    assert_alike(&benches);
-    assert_alike(&writing);
-    assert_alike(&filling);
+    [&benches, &writing, &filling, &finding].into_iter().for_each(|benches| assert_alike(benches));
     show("213 records read and taken", medians(taken, 400)[0]);
     measure_writing(&writing);
     let times = medians(judged, 1000);
@@ -261,14 +329,18 @@ fn measure(benches: &[Bench], writing: &[Bench], filling: &[Bench]) {
     let ratio = |at: usize| times[3][at] / times[2][at];
     println!("1000000 rounds against 1: proved {:.3}, plain Rust {:.3}", ratio(0), ratio(1));
     measure_filling(&filling);
+    let (all, between) = finding.split_at(3);
+    measure_finding("all rounds accepted", all);
+    measure_finding("ends between", between);
 }
 
 fn main() {
-    let (benches, writing, filling) = (benches(), writing(), filling());
+    let (benches, writing, filling, finding) = (benches(), writing(), filling(), finding());
+    let all: [&[Bench]; 4] = [&benches, &writing, &filling, finding.as_flattened()];
     let words: Vec<String> = std::env::args().skip(1).collect();
-    let named = |name: &str| benches.iter().chain(&writing).chain(&filling).find(|bench| bench.name == name).expect("the name of a file");
+    let named = |name: &str| all.into_iter().flatten().find(|bench| bench.name == name).expect("the name of a file");
     match words.iter().map(String::as_str).collect::<Vec<_>>()[..] {
-        [] => measure(&benches, &writing, &filling),
+        [] => measure(all),
         ["check"] => exit(!check(&benches) as i32),
         ["proved", name] => println!("{}", (named(name).proved)(&named(name).file, &mut buffer())),
         ["plain", name] => println!("{}", (named(name).plain)(&named(name).file, &mut buffer())),

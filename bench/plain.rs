@@ -146,6 +146,14 @@ impl LoopMark {
             LoopMark::Counted { back, .. } | LoopMark::Endless { back, .. } => Some(back),
         }
     }
+
+    // The same mark with other rounds, where it has rounds at all.
+    pub fn with_rounds(self, rounds: u32) -> LoopMark {
+        match self {
+            LoopMark::Counted { length, back, .. } => LoopMark::Counted { length, rounds, back },
+            other => other,
+        }
+    }
 }
 
 fn read_field(part: &[u8]) -> Field {

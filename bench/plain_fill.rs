@@ -28,15 +28,9 @@ impl Case {
     }
 }
 
-// Fills the case of a file: the line of the three numbers, and behind it the bytes of the filled case, if there is one.
+// Fills the case of a file: the line, and behind it the bytes of the filled case, if there is one.
 pub fn filled(src: &[u8]) -> Vec<u8> {
     let mut case = Case::empty();
-    let [result, second, third] = case.take_file(src).map_or_else(|refused| refused, |()| case.fill());
-    let mut output = format!("{result} {second} {third}\n").into_bytes();
-    if result == 0 {
-        let line = output.len();
-        output.resize(line + second, 0);
-        case.write(&mut output[line..]);
-    }
-    output
+    let numbers = case.take_file(src).map_or_else(|refused| refused, |()| case.fill());
+    case.output(numbers, true)
 }

@@ -137,9 +137,14 @@ impl Case {
         }
     }
 
+    // Whether there is a sentence and the endless loop has closed.
+    pub fn finished(&self) -> bool {
+        self.sentences() > 0 && self.endless && self.end <= self.places()
+    }
+
     // The run of a plan; or the three numbers of the first that applies of 24, 31, 32 and 33.
     pub fn run(&self) -> Result<Run, [usize; 3]> {
-        if self.sentences() == 0 || !self.endless || self.places() < self.end {
+        if !self.finished() {
             return Err([24, self.count.iter().sum(), 0]);
         }
         if self.places[0].state != 0 {
@@ -156,7 +161,7 @@ impl Case {
     }
 
     // The judgement's three numbers.
-    fn judge(&self) -> [usize; 3] {
+    pub fn judge(&self) -> [usize; 3] {
         let run = match self.run() {
             Ok(run) => run,
             Err(refused) => return refused,
@@ -169,6 +174,13 @@ impl Case {
             return [35, 0, root];
         }
         [0, 0, 0]
+    }
+
+    // The same with these rounds in the counted loop of this first place; they stay.
+    pub fn judged_with(&mut self, first: usize, rounds: u32) -> [usize; 3] {
+        let place = &mut self.places[first];
+        place.mark = place.mark.with_rounds(rounds);
+        self.judge()
     }
 
     // The first place and the first move into it that doesn't connect.

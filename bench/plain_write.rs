@@ -130,4 +130,15 @@ impl Case {
         write_items(&self.places[..count(Kind::Place)], bytes, write_place);
         Some(needed)
     }
+
+    // What a word of the tool prints: the line of three numbers; behind it the bytes of the case, where the result is 0 and a file comes of the word.
+    pub fn output(&self, [result, second, third]: [usize; 3], file: bool) -> Vec<u8> {
+        let mut output = format!("{result} {second} {third}\n").into_bytes();
+        if file && result == 0 {
+            let line = output.len();
+            output.resize(line + second, 0);
+            self.write(&mut output[line..]);
+        }
+        output
+    }
 }

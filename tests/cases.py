@@ -1,5 +1,5 @@
 #!/usr/bin/env python3
-"""The stored cases (vectors.tsv), those of the words of plantool (fill.tsv), and the twelve rounds of document 01 (plancheck's own stdin).
+"""The stored cases (vectors.tsv), those of the words of plantool (fill.tsv, rounds.tsv), and the twelve rounds of document 01 (plancheck's stdin).
 
 As a program, cases.py [FILE] prints each stored case as name TAB expected line TAB its bytes in hex, for the tests in Rust.
 

@@ -75,7 +75,7 @@ def example(tally, program, name, case, lines):
 def page(tally, program):
     """The blocks of the page, each a change of the last case above it: every result has one."""
     text, results = PAGE.read_text(encoding="ascii"), set()
-    tally.equal("names of blocks", ["case", "explain", "fill"], sorted(set(re.findall("^```(.+)$", text, re.M))))
+    tally.equal("names of blocks", ["case", "explain", "fill", "rounds"], sorted(set(re.findall("^```(.+)$", text, re.M))))
     cases = [(first, spell("\n".join(lines))) for first, lines in blocks(text, "case")]
     examples = blocks(text, "explain")
     for first, lines in examples:

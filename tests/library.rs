@@ -1,5 +1,5 @@
-//! The proved library, called through its C functions; buffers to write into, and what filling leaves in them; and the stored cases, answered by
-//! the library and by another checker.
+//! The proved library, called through its C functions; buffers to write into, and what the words of the tool leave in them; and the stored cases,
+//! answered by the library and by another checker.
 use std::collections::BTreeSet;
 
 /// The three numbers of the line.
@@ -25,6 +25,13 @@ extern "C" {
 extern "C" {
     fn fill_bytes(bytes: *const u8, count: usize, buffer: *mut u8, room: usize) -> usize;
     fn fill_kept(bytes: *const u8, count: usize, buffer: *mut u8, room: usize) -> usize;
+}
+
+#[link(name = "testing_rounds", kind = "static")]
+extern "C" {
+    fn rounds_bytes(bytes: *const u8, count: usize, k: usize, buffer: *mut u8, room: usize) -> usize;
+    fn set_bytes(bytes: *const u8, count: usize, k: usize, n: usize, buffer: *mut u8, room: usize) -> usize;
+    fn set_kept(bytes: *const u8, count: usize, k: usize, n: usize, buffer: *mut u8, room: usize) -> usize;
 }
 
 /// The first number of the library's answer.
@@ -73,22 +80,60 @@ pub fn write(bytes: &[u8], buffer: &Buffer) -> (Written, [Buffer; 2]) {
     ([result, count_written(bytes, other.lent())], [one, other])
 }
 
-/// Filling the case of a file, into a buffer: how many bytes are told, and the buffer before and after.
-pub struct Filled {
+/// A word of the tool, with its numbers: the marks filled in, the rounds of a loop found, and set.
+#[derive(Clone, Copy, Debug)]
+pub enum Word {
+    Fill,
+    Rounds(usize),
+    Set(usize, usize),
+}
+
+impl Word {
+    /// Puts out what the word prints for a file, into what is lent: how many bytes are told.
+    pub fn put(self, bytes: &[u8], lent: &mut [u8]) -> usize {
+        let (from, count, to, room) = (bytes.as_ptr(), bytes.len(), lent.as_mut_ptr(), lent.len());
+        // SAFETY: the functions read the bytes, write into what is lent and keep nothing.
+        unsafe {
+            match self {
+                Word::Fill => fill_bytes(from, count, to, room),
+                Word::Rounds(k) => rounds_bytes(from, count, k, to, room),
+                Word::Set(k, n) => set_bytes(from, count, k, n, to, room),
+            }
+        }
+    }
+
+    /// The file of the case that the library hands back, altered or not, where no case has more bytes than this. Finding rounds hands none back.
+    #[allow(dead_code)] // the benchmark doesn't ask for it
+    pub fn kept(self, bytes: &[u8], most: usize) -> Vec<u8> {
+        let mut file = vec![0; most];
+        let (from, count, to) = (bytes.as_ptr(), bytes.len(), file.as_mut_ptr());
+        // SAFETY: the functions read the bytes, write into what is lent and keep nothing.
+        let count = unsafe {
+            match self {
+                Word::Fill => fill_kept(from, count, to, most),
+                Word::Rounds(_) => 0,
+                Word::Set(k, n) => set_kept(from, count, k, n, to, most),
+            }
+        };
+        file.truncate(count);
+        file
+    }
+}
+
+/// What a word puts into a buffer: how many bytes are told, and the buffer before and after.
+pub struct Output {
     before: Buffer,
     count: usize,
     after: Buffer,
 }
 
-impl Filled {
-    /// The library's filling, into a buffer of this length.
-    pub fn of(bytes: &[u8], length: usize, seed: usize) -> Filled {
+impl Output {
+    /// The library's, for a file, into a buffer of this length.
+    pub fn of(word: Word, bytes: &[u8], length: usize, seed: usize) -> Output {
         let before = Buffer::new(length, seed);
         let mut after = before.clone();
-        let lent = after.lent();
-        // SAFETY: the function reads the bytes, writes into what is lent and keeps nothing.
-        let count = unsafe { fill_bytes(bytes.as_ptr(), bytes.len(), lent.as_mut_ptr(), lent.len()) };
-        Filled { before, count, after }
+        let count = word.put(bytes, after.lent());
+        Output { before, count, after }
     }
 
     /// Whether this output stands at the front of the buffer, all else in it being as it was, and its length is told. In a buffer that is too
@@ -102,16 +147,6 @@ impl Filled {
         }
         self.count == if fits { output.len() } else { 0 } && self.after == after
     }
-}
-
-/// The file of the case that the library's filling hands back, filled or not, where no case has more bytes than this.
-#[allow(dead_code)] // the benchmark doesn't ask for it
-pub fn kept(bytes: &[u8], most: usize) -> Vec<u8> {
-    let mut file = vec![0; most];
-    // SAFETY: the function reads the bytes, writes into what is lent and keeps nothing.
-    let count = unsafe { fill_kept(bytes.as_ptr(), bytes.len(), file.as_mut_ptr(), file.len()) };
-    file.truncate(count);
-    file
 }
 
 /// A stored case: its name, the numbers of its line and its bytes.

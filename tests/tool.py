@@ -1,36 +1,48 @@
 #!/usr/bin/env python3
 """tool.py PLANTOOL PLANCHECK: the program plantool and its wrapper ./plantool.
 
-The program, with its words as arguments and the case on standard input: the cases of fill.tsv, the stored cases beside what plancheck says of
-them, inputs of all shapes, and arguments that it must refuse. A filled file is judged with 0 or 35, and filled as it is. The wrapper: what it
-puts where and its status, for each sort of answer and of bad usage; in a small repository, that it builds the program, passes numbers on, and
-never gives a part of a file. What README.md, FORMAT.md and EXPLAIN.md show of it, run.
+The program, with its words as arguments and the case on standard input: the cases of fill.tsv and rounds.tsv, the stored cases beside what
+plancheck says of them, inputs of all shapes, and arguments that it must refuse. A filled file is judged with 0 or 35, and filled as it is; the
+rounds at the ends of those that are found, set, are accepted, and those beside them aren't. The wrapper: what it puts where and its status, for
+each sort of answer and of bad usage, and what a terminal shows; in a small repository, that it builds the program, passes numbers on, and never
+gives a part of a file. What README.md, FORMAT.md and EXPLAIN.md show of it, run.
 """
 import os
 import pathlib
+import pty
 import re
+import subprocess
 import sys
 import tempfile
 
 from cases import LENGTH, ROOT, TWELVE, spelled, stored, with_field, worded
-from pages import blocks, cut, results_defined, spell, with_changes
+from pages import blocks, changed, cut, results_defined, spell, with_changes
 from program import answered, refused, shapes, slowly, unreadable
 from tally import Tally
 from wrapper import WRITES, linked_tools, repository, run
 from wrapper import refused as said
 
 FILL = ROOT / "tests" / "fill.tsv"
+ROUNDS = ROOT / "tests" / "rounds.tsv"
 WRAPPER = ROOT / "plantool"
 MEANINGS = ROOT / "tools" / "results.txt"
 # What this wrapper calls beside what the other one does.
 TOOLS = ["cat", "mktemp", "tail", "wc"]
-# The results that fill.tsv has at least, with a record that is refused; and that of filling alone.
-RESULTS = {0, 23, 24, 31, 32, 33, 37}
+# The results that the files of cases have at least by word, with a record that is refused; and those of the words alone.
+RESULTS = {"fill": {0, 23, 24, 31, 32, 33, 37}, "rounds": {0, 15, 24, 27, 31, 32, 33, 34, 35}, "set": {0, 15, 16, 24, 27}}
 CHANGES = 37
+NO_LOOP = 27
+MOST = 1_000_000
 # A file that is filled, and one whose truth changes.
 UNMARKED = spelled("S 0/S 1/T 0 1 0 0 0 0/T 1 1 0 0 0 0/F 1 0/F 5 0/P 0 . 0/P 1 0 0 1 . 1")
 MARKED = spelled("S 0/S 1/T 0 1 0 0 0 0/T 1 1 0 0 0 0/F 1 0/F 5 0/P 0 . 2/P 1 0 3 1 . 1")
 CHANGING = spelled("S 0/S 1/T 0 0 0 0 0 0/T 0 1 0 0 0 0/T 1 1 0 0 0 0/F 1 0/F 5 0/P 0 . 0 1 2 0/P 1 1 0 1 . 2")
+# A file with counted loops of which the first may have 11 to 21 rounds, and the second any; the third loop is endless.
+BOX = spelled(
+    "S 1/G 1 0 0 0 10/G -1 0 0 0 -20/T 0 0 1 0 0 0/T 0 0 0 0 0 0 0 1/T 0 0 0 0 0 0/F 0/"
+    "P 0 . 1 1 15 0/P 0 2 1 1 4 2/P 0 1 1/P 0 2 1 1 . 2"
+)
+ALONE = with_field(with_field(BOX, 2, 5, "-10"), 7, 5, "11")
 # Files that are refused, by their lines.
 REFUSED = {
     "14 4 18": with_field(TWELVE, 4, 3, "1,250"),
@@ -49,16 +61,24 @@ REFUSED = {
 NO_WORDS = [
     [], [""], ["FILL"], ["fil"], ["fills"], ["fill "], [" fill"], ["x" * 5000],
     ["fill", "1"], ["fill", ""], ["fill", "fill"], ["fill", "1", "2"], ["--raw", "fill"],
+    ["rounds"], ["rounds", "0", "1"], ["rounds", "0", ""], ["round", "0"], ["roundss", "0"], ["ROUNDS", "0"], ["rounds 0"], ["0", "rounds"],
+    ["set"], ["set", "0"], ["set", "0", "1", "2"], ["set", "0", "1", ""], ["se", "0", "1"], ["sets", "0", "1"], ["set 0", "1"], ["set 0 1"],
 ]
 # Arguments of the wrapper that are bad usage; "plain" is a file that is there.
 BAD_USAGE = [
     [], ["--raw"], ["--help"], ["plain"], ["fil", "plain"], ["FILL", "plain"], ["", "plain"], ["fill|", "plain"], ["*", "plain"],
     ["fill\nfill", "plain"], ["fill"], ["--raw", "fill"], ["-", "fill"], ["fill", "plain", "plain"], ["fill", "plain", "-"], ["fill", "1", "plain"], ["fill", "--raw", "plain"],
     ["--raw", "fill", "plain", "plain"], ["--raw", "--raw", "fill", "plain"],
+    ["rounds", "plain"], ["rounds", "0"], ["rounds", "0", "1", "plain"], ["rounds", "plain", "0"], ["rounds", "00", "plain"],
+    ["--raw", "rounds", "plain"], ["set", "plain"], ["set", "0", "plain"], ["set", "0", "1"], ["set", "0", "1", "2", "plain"],
+    ["set", "0", "-1", "plain"], ["--raw", "set", "0", "plain"],
 ]
 # What is no number for a word that takes one.
-NO_NUMBERS = ["", " ", "-1", "+1", "00", "01", "1.0", "1,000", "1 ", " 1", "1\n", "0x1", "x", "1e3", "\u0661", "*", "--raw"]
-NUMBERS = ["0", "1", "10", "1000000", "18446744073709551616", "9" * 400]
+NO_NUMBERS = [
+    "", " ", "-1", "+1", "-0", "00", "01", "0" * 19, "1.0", "1,000", "1 ", " 1", "1\n", "0x1", "x", "1e3", "\u0661", "*", "--raw", "1/", "1:",
+    "1" + "0" * 19, "18446744073709551615", "18446744073709551616", "9" * 20, "9" * 400,
+]
+NUMBERS = ["0", "1", "10", "1000000", "1" + "0" * 18, "9" * 19]
 # Programs of the shell that don't print a line with as many bytes as it tells, or don't end well.
 FAILING = [
     "echo 0 9 0; echo abc", "echo 0 1 0; echo abc", "echo 0 08 0; echo abc", "echo 0 4", "echo 0 4 0 0; echo abc", "echo abc", "echo; echo",
@@ -98,16 +118,27 @@ def is_right(tally, name, command, plancheck, output):
     tally.equal(f"{name}: filled again", filled(file), answered(command, file))
 
 
-def vectors(tally, program, plancheck):
-    """The cases of fill.tsv."""
-    cases = worded(FILL)
+def are_ends(tally, name, program, plancheck, case, output):
+    """Of the rounds that were found: with them, and with one more or less where there is such a number, set by the program and judged."""
+    _, least, greatest = map(int, output.split())
+    for rounds in sorted({least - 1, least, greatest, greatest + 1} & set(range(1, MOST + 1))):
+        line = answered([plancheck], product(answered([program, "set", case.words[1], str(rounds)], case.data)))
+        tally.equal(f"{name}: accepted with {rounds} rounds", least <= rounds <= greatest, line == "0 0 0\n")
+
+
+def vectors(tally, program, plancheck, path, words):
+    """The cases of a file, which has these words."""
+    cases, results = worded(path), {word: set() for word in words}
     for case in cases:
         output = answered([program, *case.words], case.data)
         tally.equal(case.name, case.output, output)
-        if output.startswith("0 "):
+        results[case.words[0]].add(int(case.output.split(" ")[0]))
+        if output.startswith("0 ") and case.words[0] == "fill":
             is_right(tally, case.name, [program, "fill"], plancheck, output)
-    results = {int(case.output.split(" ")[0]) for case in cases}
-    tally.equal("results of fill.tsv", RESULTS, RESULTS & results)
+        elif output.startswith("0 ") and case.words[0] == "rounds":
+            are_ends(tally, case.name, program, plancheck, case, output)
+    for word in words:
+        tally.equal(f"results of {path.name}: {word}", RESULTS[word], RESULTS[word] & results[word])
     return len(cases)
 
 
@@ -125,13 +156,37 @@ def beside_plancheck(tally, program, plancheck):
     tally.equal("wrong marks, filled", {0, CHANGES}, seen)
 
 
+def loops_beside_plancheck(tally, program):
+    """The stored cases, and inputs of all shapes: one that isn't accepted has its own line, and otherwise rounds are found; or there is no such loop.
+    For setting, a record or 24 is refused as it is by judging."""
+    seen = {"rounds": set(), "set": set()}
+    for name, line, data in [(case.name, case.line, case.data) for case in stored()] + [(name, line, data) for name, data, line in shapes()]:
+        result = int(line.split()[0])
+        for words, refused_alike in ((["rounds", "0"], result > 0), (["set", "0", "1"], 10 < result < 30)):
+            output = answered([program, *words], data)
+            seen[words[0]].add(int(output.split(" ")[0]))
+            if refused_alike:
+                tally.equal(f"{name}, {words[0]}", line + "\n", output)
+            else:
+                tally.equal(f"{name}, {words[0]}", True, output.split(" ")[0] in ("0", str(NO_LOOP)))
+    for word, results in seen.items():
+        tally.equal(f"results of {word} beside refusals", {0, NO_LOOP}, {0, NO_LOOP} & results)
+
+
 def words(tally, program):
     """Arguments, and inputs that can't be read."""
-    command = [program, "fill"]
-    for arguments in NO_WORDS:
+    no_numbers = [words for number in NO_NUMBERS for words in (["rounds", number], ["set", number, "1"], ["set", "0", number])]
+    for arguments in NO_WORDS + no_numbers:
         tally.equal(f"arguments {arguments!r:.60} are refused", True, refused([program, *arguments], input=TWELVE))
-    tally.equal("filled a byte at a time", filled(TWELVE), slowly(command))
-    unreadable(tally, command)
+    for number in NUMBERS:
+        absent = f"27 {number} 0\n"
+        tally.equal(f"rounds {number}", "0 1 1000000\n" if number == "0" else absent, answered([program, "rounds", number], TWELVE))
+        tally.equal(f"set {number} 12", filled(TWELVE) if number == "0" else absent, answered([program, "set", number, "12"], TWELVE))
+        done = filled(with_field(TWELVE, 11, 5, number)) if 1 <= int(number) <= MOST else "16 11 5\n"
+        tally.equal(f"set 0 {number}", done, answered([program, "set", "0", number], TWELVE))
+    for arguments, want in ((["fill"], filled(TWELVE)), (["rounds", "0"], "0 1 1000000\n"), (["set", "0", "12"], filled(TWELVE))):
+        tally.equal(f"{arguments[0]}, a byte at a time", want, slowly([program, *arguments]))
+        unreadable(tally, [program, *arguments])
 
 
 # ---- the wrapper
@@ -161,6 +216,51 @@ def answers(tally, folder, path):
     for line, data in REFUSED.items():
         tally.equal(f"{line} is refused", (1, "", meaning(line)), run(WRAPPER, "fill", "-", input=data, **here))
         tally.equal(f"{line} is printed raw", (0, line + "\n", ""), run(WRAPPER, "--raw", "fill", "-", input=data, **here))
+
+
+def on_terminal(*command, data):
+    """Status, and what a terminal shows of standard output and standard error."""
+    ours, theirs = pty.openpty()
+    done = subprocess.run(command, input=data, stdout=theirs, stderr=theirs, timeout=60)
+    os.close(theirs)
+    shown = b""
+    try:
+        while part := os.read(ours, 4096):
+            shown += part
+    except OSError:  # all is read, and the other end is closed
+        pass
+    os.close(ours)
+    return done.returncode, shown.decode("latin-1").replace("\r\n", "\n")
+
+
+def loops(tally, folder, path):
+    """Rounds found and set: into a pipe only the line, or only the file, and on a terminal the line in words too."""
+    here = {"cwd": folder, "env": {"PATH": path}}
+    (folder / "box").write_bytes(BOX)
+    for want, words in (
+        ((0, "0 11 21\n", ""), ["rounds", "0", "box"]),
+        ((0, "0 1 1000000\n", ""), ["rounds", "1", "box"]),
+        ((1, "", meaning("27 2 0")), ["rounds", "2", "box"]),
+        ((0, "27 3 0\n", ""), ["--raw", "rounds", "3", "box"]),
+        ((0, with_field(BOX, 7, 5, "1000000").decode(), ""), ["set", "0", "1000000", "box"]),
+        ((0, filled(with_field(BOX, 8, 5, "1")), ""), ["--raw", "set", "1", "1", "box"]),
+        ((1, "", meaning("27 2 0")), ["set", "2", "0", "box"]),
+        ((1, "", meaning("16 8 5")), ["set", "1", "0", "box"]),
+        ((0, "16 7 5\n", ""), ["--raw", "set", "0", "1000001", "box"]),
+    ):
+        tally.equal(" ".join(words), want, run(WRAPPER, *words, **here))
+    for line, data in REFUSED.items():
+        result = int(line.split()[0])
+        for words in [["rounds", "0"]] * (result != CHANGES) + [["set", "0", "1"]] * (result < 30):
+            tally.equal(f"{line} is refused by {words[0]}", (1, "", meaning(line)), run(WRAPPER, *words, "-", input=data, **here))
+    for want, words, data in (
+        ((0, "0 11 21\nplantool: loop 0 may have 11 to 21 rounds\n"), ["rounds", "0"], BOX),
+        ((0, "0 11 11\nplantool: loop 0 may have no other number of rounds than 11\n"), ["rounds", "0"], ALONE),
+        ((0, "0 11 21\n"), ["--raw", "rounds", "0"], BOX),
+        ((1, meaning("27 2 0")), ["rounds", "2"], BOX),
+        ((0, with_field(BOX, 8, 5, "9").decode()), ["set", "1", "9"], BOX),
+    ):
+        tally.equal(f"on a terminal: {' '.join(words)}", want, on_terminal(WRAPPER, *words, "-", data=data))
 
 
 def refuses(tally, folder, path):
@@ -224,15 +324,17 @@ def small_repository(tally, folder, path):
 
 
 def readme(tally, folder):
-    """The commands of README.md that use plantool, run in a shell one after the other, and all that they print."""
+    """The commands of the sections of README.md that use plantool, run in a shell one after the other, and all that they print."""
     for name in ("plancheck", "plantool", "tools", "examples"):
         (folder / name).symlink_to(ROOT / name)
-    part = re.search(r"^## Marks filled in\n(.*?)^## ", (ROOT / "README.md").read_text(encoding="utf-8"), re.M | re.S)[1]
-    commands = re.findall(r"^    \$ (.*)\n((?:    [^$].*\n)*)", part, re.M)
+    sections = re.split(r"^## (.*)\n", (ROOT / "README.md").read_text(encoding="utf-8"), flags=re.M)[1:]
+    shown = {title: re.findall(r"^    \$ (.*)\n((?:    [^$].*\n)*)", part, re.M) for title, part in zip(sections[::2], sections[1::2])}
+    commands = shown["Marks filled in"]
     tally.equal("README.md: two commands from a case without marks to an accepted file", (2, "    0 0 0\n"), (len(commands), commands[-1][1]))
-    for command, want in commands:
-        command = command.split("      #")[0]
-        tally.equal(f"README.md: {command}", (0, re.sub("^    ", "", want, flags=re.M), ""), run("bash", "-c", command, cwd=folder))
+    for commands in shown.values():
+        for command, want in commands if any("./plantool" in command for command, _ in commands) else ():
+            command = command.split("      #")[0]
+            tally.equal(f"README.md: {command}", (0, re.sub("^    ", "", want, flags=re.M), ""), run("bash", "-c", command, cwd=folder))
 
 
 def format_page(tally, program):
@@ -247,6 +349,34 @@ def format_page(tally, program):
             tally.equal(f"FORMAT.md: line {number}", want, marks if sort == "marks" else output.strip())
             examples += 1
     tally.equal("FORMAT.md has examples of filling", True, examples >= 10)
+
+
+def loops_in_format_page(tally, program):
+    """The examples of FORMAT.md: the line of finding rounds or of a refusal; or the record that is another where rounds are set."""
+    sort = re.compile(r"((?:rounds|set)[\d ]+) (gives|makes) (.*?)(?: +with (.*?))? *(?:#.*)?")
+    examples = {"rounds": 0, "set": 0}
+    for first, lines in blocks((ROOT / "docs" / "FORMAT.md").read_text(encoding="utf-8"), "rounds"):
+        claims = [sort.fullmatch(line) for line in lines]
+        case = spell("\n".join(line for line, claim in zip(lines, claims) if not claim))
+        for number, (words, verb, want, changes) in ((number, claim.groups()) for number, claim in enumerate(claims, first) if claim):
+            data, words = with_changes(case, changes), words.split()
+            want = filled(changed(data, want)) if verb == "makes" else want + "\n"
+            tally.equal(f"FORMAT.md: line {number}", want, answered([program, *words], data))
+            examples[words[0]] += 1
+    tally.equal("FORMAT.md has examples of rounds", True, min(examples.values()) >= 9)
+
+
+def loops_in_explain_page(tally):
+    """The blocks of EXPLAIN.md: words, and what a terminal shows."""
+    text = (ROOT / "docs" / "EXPLAIN.md").read_text(encoding="ascii")
+    cases, results = [(first, spell("\n".join(lines))) for first, lines in blocks(text, "case")], set()
+    for first, [words, *lines] in blocks(text, "rounds"):
+        changes = lines.pop(0).removeprefix("with ") if lines[0].startswith("with ") else None
+        data = with_changes([case for line, case in cases if line < first][-1], changes)
+        results.add(int(lines[0].split()[0]))
+        want = (int(not lines[0].startswith("0 ")), "".join(line + "\n" for line in lines))
+        tally.equal(f"EXPLAIN.md: line {first}", want, on_terminal(WRAPPER, *words.split(), "-", data=data))
+    tally.equal("EXPLAIN.md has rounds, 27 and 16 by set", True, {0, 16, NO_LOOP} <= results)
 
 
 def explain_page(tally):
@@ -264,15 +394,17 @@ def explain_page(tally):
 def meanings(tally):
     """Every result has its words, once."""
     rows = [row.split(" ", 3) for row in MEANINGS.read_text(encoding="ascii").splitlines() if not row.startswith("#")]
-    tally.equal("results that have words", sorted({*results_defined(), CHANGES}), sorted(int(row[0]) for row in rows))
+    tally.equal("results that have words", sorted({*results_defined(), CHANGES, NO_LOOP}), sorted(int(row[0]) for row in rows))
 
 
 def main():
     if len(sys.argv) != 3:
         sys.exit(__doc__)
     program, plancheck, tally = *map(os.path.abspath, sys.argv[1:]), Tally("tool")
-    cases = vectors(tally, program, plancheck)
+    filled_cases = vectors(tally, program, plancheck, FILL, ["fill"])
+    loop_cases = vectors(tally, program, plancheck, ROUNDS, ["rounds", "set"])
     beside_plancheck(tally, program, plancheck)
+    loops_beside_plancheck(tally, program)
     words(tally, program)
     with tempfile.TemporaryDirectory() as name:
         tools, files, small, shown = (pathlib.Path(name) / part for part in ("tools", "files", "small", "shown"))
@@ -282,13 +414,16 @@ def main():
         # after a change of any crate, the next call looks whether the program is built, and may build it
         tally.equal("the program is built", 0, run(WRAPPER, "--raw", "fill", ROOT / "crates" / "plancheck" / "stdin", timeout=None)[0])
         answers(tally, files, tools)
+        loops(tally, files, tools)
         refuses(tally, files, tools)
         small_repository(tally, small, tools)
         readme(tally, shown)
     format_page(tally, program)
+    loops_in_format_page(tally, program)
     explain_page(tally)
+    loops_in_explain_page(tally)
     meanings(tally)
-    tally.finish(f" ({cases} cases of fill.tsv)")
+    tally.finish(f" ({filled_cases} cases of fill.tsv, {loop_cases} of rounds.tsv)")
 
 
 if __name__ == "__main__":

@@ -1,9 +1,15 @@
 //! A separate checker of case files, written from documents 01 and 02 alone: it unrolls the run moment by moment and looks at every moment.
 //! It has no formula for a loop and shares nothing with the proved code. To test the tests, one mistake can be planted in it.
+//! A run of a million rounds is unrolled too; only the best sums of its untils are then found backwards, each moment's from the next one's.
 use crate::library::Answer;
 use crate::mistakes::Mistake::{self, *};
 use crate::reader::*;
 use std::cell::Cell;
+
+/// A run of more moments is long.
+const LONG: usize = 100_000;
+/// More than any sum before the endless loop: the sum of an until that grows there without end.
+const FAR: i64 = 1 << 60;
 
 /// The unrolling takes more steps than were allowed.
 #[derive(Debug)]
@@ -386,12 +392,29 @@ impl Run {
             }
         }
         let until = Until { goal: operand(3).clone(), held: operand(2).clone(), adds };
+        if self.moments.len() > LONG {
+            return self.best_sums_backwards(&until);
+        }
         (0..self.moments.len()).map(|start| self.best_sum(&until, start, enough)).collect()
+    }
+
+    /// The same from the last moment to the first: the goal is reached at once, or from the next moment on where the held sentence is true.
+    fn best_sums_backwards(&self, until: &Until) -> Result<Vec<Option<i64>>, TooLong> {
+        let mut best: Vec<Option<i64>> = vec![None; self.moments.len()];
+        for moment in (0..best.len()).rev() {
+            best[moment] = if moment >= self.endless {
+                self.best_sum(until, moment, FAR)?
+            } else {
+                let next = best[moment + 1].filter(|_| until.held[moment]);
+                until.goal[moment].then_some(0).max(next.map(|sum| sum + until.adds[moment]))
+            };
+        }
+        Ok(best)
     }
 
     /// Goes on from a moment as long as the held sentence is true. In the endless loop it stops after a whole round in which no goal
     /// stood or the sum has not grown: the next round would be the same, with no greater sums. Otherwise the sum grows by 1 or more
-    /// each round, so `enough` is reached.
+    /// each round, so `enough` is reached, and need not be waited for where it is far.
     fn best_sum(&self, until: &Until, start: usize, enough: i64) -> Result<Option<i64>, TooLong> {
         let (mut moment, mut sum, mut best) = (start, 0, None);
         let (mut round_start, mut goal_seen) = (None, false);
@@ -419,6 +442,9 @@ impl Run {
                     let grown = if self.mistake == GrowthEndless { sum < before } else { sum > before };
                     if !goal_seen || !grown {
                         return Ok(best);
+                    }
+                    if enough == FAR {
+                        return Ok(Some(FAR));
                     }
                 }
                 if self.planted_infinity(until, round_start.is_some()) {

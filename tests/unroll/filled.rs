@@ -2,7 +2,7 @@
 //! the filler.
 use crate::checker::{judge, TooLong};
 use crate::filler::{fill, output, reached};
-use crate::library::{self, Answer, Filled, SHOWN};
+use crate::library::{self, Answer, Output, Word, SHOWN};
 use crate::mistakes::{Lapse, Mistake, LAPSES};
 use crate::reader::{read, Case, Held, F, LENGTH, P, ROOM};
 use crate::writer;
@@ -124,10 +124,10 @@ impl Fillings {
     /// Whether the library and the filler put out the same, and what is filled is as it must be; and which planted mistakes that finds.
     fn right(&mut self, bytes: &[u8], trial: &Trial, steps: u64) -> bool {
         let whole = output(&(trial.answer, trial.filled.clone()), Lapse::Nothing);
-        let library = Filled::of(bytes, whole.len() + self.files % (2 * LENGTH), self.files);
-        let short = self.files % SHORT_EACH > 0 || Filled::of(bytes, self.files % whole.len(), self.files).agrees(&whole);
+        let library = Output::of(Word::Fill, bytes, whole.len() + self.files % (2 * LENGTH), self.files);
+        let short = self.files % SHORT_EACH > 0 || Output::of(Word::Fill, bytes, self.files % whole.len(), self.files).agrees(&whole);
         self.buffers += 1 + (self.files % SHORT_EACH == 0) as usize;
-        let kept = library::kept(bytes, ROOM.iter().sum::<usize>() * LENGTH);
+        let kept = Word::Fill.kept(bytes, ROOM.iter().sum::<usize>() * LENGTH);
         self.find_mistakes(trial.held, &library, &kept);
         let stays = trial.answer[0] != 0 || filled_stays(&trial.filled, steps).unwrap_or(false);
         library.agrees(&whole) && short && keeps(trial.held, &trial.filled, &kept) && stays && self.only_marks(trial, steps).unwrap_or(false)
@@ -155,7 +155,7 @@ impl Fillings {
     }
 
     /// Counts which planted mistakes make the filler put out something else than the library.
-    fn find_mistakes(&mut self, held: &Held, library: &Filled, kept: &[u8]) {
+    fn find_mistakes(&mut self, held: &Held, library: &Output, kept: &[u8]) {
         for (times, (lapse, _)) in self.found.iter_mut().zip(LAPSES) {
             let found = |wrong: &(Answer, Case)| !library.agrees(&output(wrong, lapse)) || !keeps(held, &wrong.1, kept);
             if *times < FOUND && fill(held, lapse, STEPS).is_ok_and(|wrong| found(&wrong)) {
@@ -228,6 +228,6 @@ fn filled_stays(filled: &Case, steps: u64) -> Result<bool, TooLong> {
     let file = writer::case(filled);
     let answer = judge(filled, Mistake::Nothing, steps)?;
     let line = format!("0 {} 0\n", file.len()).into_bytes();
-    let again = Filled::of(&file, line.len() + file.len(), answer[0]).agrees(&[line, file.clone()].concat());
+    let again = Output::of(Word::Fill, &file, line.len() + file.len(), answer[0]).agrees(&[line, file.clone()].concat());
     Ok(matches!(answer[0], 0 | 35) && library::answer(&file) == answer && again)
 }

@@ -155,6 +155,7 @@ pub fn output(&(answer, ref case): &(Answer, Case), lapse: Lapse) -> Vec<u8> {
     [line(numbers), file].concat()
 }
 
-fn line([result, second, third]: Answer) -> Vec<u8> {
+/// The bytes of a line.
+pub fn line([result, second, third]: Answer) -> Vec<u8> {
     format!("{result} {second} {third}\n").into_bytes()
 }

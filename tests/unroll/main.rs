@@ -1,17 +1,29 @@
 //! unroll cases COUNT SEED: case files, answered by the library and by the separate checker: the twelve rounds, given weights, with fields
 //! spelled badly, then random ones; each is also written back by both, and between them files of any numbers. Mistakes are planted in both.
 //! unroll fill COUNT SEED: random case files whose marks are filled in by both; of small ones all marks are tried. Mistakes are planted there too.
-//! unroll stored: the stored cases, as tests/cases.py prints them, from standard input, answered, written back and filled by both.
+//! unroll rounds COUNT SEED: plans by hand and random case files, so many of them accepted, in which the rounds of loops are found and set by both.
+//! The run is unrolled for all rounds of a loop up to 40, and for some loops up to a million. Mistakes are planted there too.
+//! unroll stored: the stored cases, as tests/cases.py prints them, from standard input, answered, written back, filled, and with rounds found and
+//! set by both.
 mod checker;
 mod filled;
 mod filler;
 #[path = "../library.rs"]
 mod library;
 mod mistakes;
+#[allow(dead_code)]
+#[path = "../../bench/plain.rs"]
+mod plain;
+#[allow(dead_code)]
+#[path = "../../bench/plain_judge.rs"]
+mod plain_judge;
 mod random;
 mod reader;
+mod repeats;
 mod rooms;
 mod shapes;
+mod spanned;
+mod spans;
 mod writer;
 mod written;
 
@@ -21,8 +33,10 @@ use library::{Answer, Stored, RESULTS};
 use mistakes::{Mistake, MISTAKES};
 use random::{file_to_fill, misspelled, random_file, weighted, Random};
 use reader::{read, Case, Fields, Held, F, KINDS, P, ROOM, T};
+use repeats::file_to_span;
 use rooms::any_rooms;
 use shapes::{endless_guards, shapes, GUARD_CASES, SHAPES};
+use spanned::Spannings;
 use std::collections::BTreeMap;
 use std::process::exit;
 use written::Writings;
@@ -32,6 +46,8 @@ const TWELVE: &[u8] = include_bytes!("../../crates/plancheck/stdin");
 const STEPS: u64 = 500_000;
 const STORED_STEPS: u64 = 10_000_000;
 const FILLED_STEPS: u64 = 2_000_000;
+/// And for one judgement with other rounds in a loop, of a random case and of a stored one.
+const SPANNED_STEPS: u64 = 50_000;
 /// A mistake is tried until so many cases have found it.
 const FOUND: usize = 3;
 /// For so many cases, a file of any numbers is written back too.
@@ -184,19 +200,39 @@ fn fillings(count: usize, seed: u64) -> bool {
     fillings.enough()
 }
 
-/// The stored cases, answered, written back and filled.
+/// Plans by hand, and random files, so many of them accepted, with rounds found and set.
+fn spannings(count: usize, seed: u64) -> bool {
+    let mut r = Random(seed);
+    let mut spannings = Spannings::new(!seed);
+    if !spannings.by_hand(SPANNED_STEPS) {
+        return false;
+    }
+    while spannings.accepted() < count {
+        if !spannings.add(&file_to_span(&mut r), SPANNED_STEPS) {
+            println!("unroll: after {} accepted cases of seed {seed}, rounds aren't found or set rightly", spannings.accepted());
+            return false;
+        }
+    }
+    spannings.show();
+    spannings.enough()
+}
+
+/// The stored cases, answered, written back, filled, and with rounds found and set.
 fn stored() -> bool {
     let cases = library::stored();
     let answers = library::compared("unroll", &cases, |bytes| Some(check(bytes, Mistake::Nothing, STORED_STEPS).ok()?.0));
     let mut writings = Writings::new(FEW);
     let mut fillings = Fillings::default();
+    let mut spannings = Spannings::new(0);
     for Stored { expected, bytes, .. } in &cases {
         writings.add(bytes, &read(bytes, Mistake::Nothing), *expected);
         fillings.add(bytes, FILLED_STEPS);
+        spannings.add(bytes, SPANNED_STEPS);
     }
     println!("{}", writings.passed("stored cases"));
     println!("{}", fillings.passed("stored cases"));
-    writings.all_passed() && fillings.all_passed() && answers
+    println!("{}", spannings.passed("stored cases"));
+    writings.all_passed() && fillings.all_passed() && spannings.all_passed() && answers
 }
 
 fn main() {
@@ -205,8 +241,9 @@ fn main() {
     let right = match words[..] {
         ["cases", count, seed] => cases(count.parse().expect("a count"), seed.parse().expect("a seed")),
         ["fill", count, seed] => fillings(count.parse().expect("a count"), seed.parse().expect("a seed")),
+        ["rounds", count, seed] => spannings(count.parse().expect("a count"), seed.parse().expect("a seed")),
         ["stored"] => stored(),
-        _ => panic!("unroll cases COUNT SEED, unroll fill COUNT SEED, or unroll stored"),
+        _ => panic!("unroll cases, fill or rounds, with COUNT and SEED, or unroll stored"),
     };
     if !right {
         exit(1);

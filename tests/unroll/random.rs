@@ -82,7 +82,7 @@ pub fn random_file(r: &mut Random) -> Vec<u8> {
         return any_bytes(r);
     }
     let (wide, slips) = (r.chance(8), r.chance(15));
-    let case = Maker { r, case: Case::default(), wide, slips, small: false }.plan();
+    let case = plan(r, wide, slips, false);
     let times = if r.chance(50) { r.pick(&[1, 1, 1, 2]) } else { 0 };
     damaged(r, &case, times)
 }
@@ -94,7 +94,7 @@ pub fn file_to_fill(r: &mut Random) -> Vec<u8> {
         return any_bytes(r);
     }
     let (wide, slips, small) = (r.chance(8), r.chance(75), r.chance(60));
-    let mut case = Maker { r, case: Case::default(), wide, slips, small }.plan();
+    let mut case = plan(r, wide, slips, small);
     marked_anew(r, &mut case);
     let times = r.chance(20) as usize;
     damaged(r, &case, times)
@@ -117,10 +117,15 @@ fn marked_anew(r: &mut Random, case: &mut Case) {
 }
 
 /// The file of a case, damaged so many times.
-fn damaged(r: &mut Random, case: &Case, times: usize) -> Vec<u8> {
+pub fn damaged(r: &mut Random, case: &Case, times: usize) -> Vec<u8> {
     let mut file = Damaged { r, case, bytes: writer::case(case) };
     (0..times).for_each(|_| file.damage());
     file.bytes
+}
+
+/// A random plan that is accepted, but for slips and a few false roots.
+pub fn plan(r: &mut Random, wide: bool, slips: bool, small: bool) -> Case {
+    Maker { r, case: Case::default(), wide, slips, small }.plan()
 }
 
 /// A plan in the making; `wide` for large numbers, `slips` for guards and sentences that may not be the same in all rounds, `small` for few places

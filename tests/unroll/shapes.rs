@@ -1,10 +1,13 @@
 //! What plans must be like for a wrong sum of a round to show: several counted loops, of one place and of more, next to each other and apart; for
-//! a wrong start: weights of all sizes, which the answer depends on; and for a wrong guard of the endless loop: each of its six cases.
+//! a wrong start: weights of all sizes, which the answer depends on; and for a wrong guard of the endless loop: each of its six cases. Then plans by
+//! hand, with the rounds that a loop of each may have.
 use crate::checker::{guard_sum, judge, Run};
 use crate::library::Answer;
-use crate::mistakes::Mistake;
+use crate::mistakes::{Mistake, Slip};
 use crate::random::{HIGHEST, LOWEST};
 use crate::reader::*;
+use crate::spans::MOST;
+use crate::writer;
 use std::ops::Range;
 
 /// A counted loop: its places, its rounds, and what a further round adds.
@@ -99,4 +102,88 @@ pub fn endless_guards(case: &Case, answer: Answer) -> [[bool; 2]; GUARD_CASES.le
         }
     }
     has
+}
+
+/// Words for a plan by hand; a guard, the rounds of the loop, and the least and the greatest that it may have.
+type Counted = (&'static str, &'static str, usize, [usize; 2]);
+/// A loop of one place whose every further round adds 1, and the guard of the move behind it.
+const COUNTED: [Counted; 6] = [
+    ("11 or more", "G 1 0 0 0 10", 15, [11, MOST]),
+    ("up to 999,999", "G -1 0 0 0 -999998", 5, [1, MOST - 1]),
+    ("up to 1,000,000, with nothing to spare", "G -1 0 0 0 -999999", 5, [1, MOST]),
+    ("from 999,999 on", "G 1 0 0 0 999998", MOST, [MOST - 1, MOST]),
+    ("1,000,000 alone", "G 1 0 0 0 999999", MOST, [MOST, MOST]),
+    ("up to 500,000, each further round counted twice", "G -2 0 0 0 -999999", 500_000, [1, 500_000]),
+];
+
+/// Words for a plan by hand with an until; the sum that is never reached, and the greatest rounds with which it isn't.
+type Summed = (&'static str, usize, usize);
+/// The sum of document 01, whose goal comes behind the loop.
+const SUMS: [Summed; 3] = [
+    ("up to 4, by the marks of an until", 5, 4),
+    ("up to 999,999, by these marks", MOST, MOST - 1),
+    ("up to 1,000,000, by these marks, with nothing to spare", MOST + 1, MOST),
+];
+/// The same with the goal at the place of the loop itself: its last moment isn't counted.
+const GOALS: [Summed; 3] = [
+    ("up to 5, by the marks of an until whose goal is in the loop", 5, 5),
+    ("up to 999,999, by these marks", MOST - 1, MOST - 1),
+    ("up to 1,000,000, by these marks, with nothing to spare", MOST, MOST),
+];
+
+type Planned = (&'static str, &'static str, usize, [usize; 2]);
+/// Other plans by hand: words for one; its records, with `.` for a blank field; the number of a loop, and its ends.
+const PLANNED: [Planned; 9] = [
+    ("the twelve rounds", TWELVE, 0, [1, MOST]),
+    ("from 11 to 21, by guards of a later place", BOX, 0, [11, 21]),
+    ("a counted loop between it and the guards, which adds nothing", BOX, 1, [1, MOST]),
+    ("11 alone", ALONE, 0, [11, 11]),
+    ("the first of two loops under one ceiling", SHARED, 0, [1, 5]),
+    ("the second of them", SHARED, 1, [1, 6]),
+    ("1 alone: a guard of the back move, which comes in at 2", BACK, 0, [1, 1]),
+    ("up to 3, by a guard of the back move", BACK_3, 0, [1, 3]),
+    ("1 alone: next at the last place, which looks back from 2 on", NEXT, 0, [1, 1]),
+];
+const TWELVE: &str = "S 1/S 2/G 1 0 0 0 0/G -1 0 0 0 -1250/T 0 1 1250 0 0 0 1/T 1 0 -1250 0 0 0 0/\
+    F 2 1/F 4 0/F 0/F 6 2 1 0/F 4 3/P 0 . 21 2 12 1/P 1 0 21/P 0 1 21 2 . 1/P 1 0 21";
+const BOX: &str = "S 1/G 1 0 0 0 10/G -1 0 0 0 -20/T 0 0 1 0 0 0/T 0 0 0 0 0 0 0 1/T 0 0 0 0 0 0/\
+    F 0/P 0 . 1 1 15 0/P 0 2 1 1 4 2/P 0 1 1/P 0 2 1 1 . 2";
+const ALONE: &str = "S 1/G 1 0 0 0 10/G -1 0 0 0 -10/T 0 0 1 0 0 0/T 0 0 0 0 0 0 0 1/T 0 0 0 0 0 0/\
+    F 0/P 0 . 1 1 11 0/P 0 1 1/P 0 2 1 1 . 2";
+/// Two loops of 2 and 3 rounds; each further round adds 1, and there may be 6 in the end.
+const SHARED: &str = "S 1/G -1 0 0 0 -6/T 0 0 1 0 0 0/T 0 0 0 0 0 0/T 0 0 0 0 0 0 0/\
+    F 0/P 0 . 1 1 2 0/P 0 1 1 1 3 0/P 0 2 1 1 . 1";
+const BACK: &str = "S 1/G 1 0 0 0 9/T 0 0 1 0 0 0 0/T 0 0 0 0 0 0/F 0/P 0 . 1 1 1 0/P 0 1 1 1 . 1";
+const BACK_3: &str = "S 1/G -1 0 0 0 -2/T 0 0 1 0 0 0 0/T 0 0 0 0 0 0/F 0/P 0 . 1 1 2 0/P 0 1 1 1 . 1";
+const NEXT: &str = "S 1/S 2/T 0 0 0 0 0 0/T 0 1 0 0 0 0/T 1 1 0 0 0 0/F 1 0/F 5 0/F 4 1/P 0 . 5 1 1 0/P 1 1 4 1 . 2";
+
+/// The plans by hand: words for one, its file, the number of a loop, and the least and the greatest rounds that the loop may have.
+pub fn by_hand() -> Vec<(&'static str, Vec<u8>, usize, [usize; 2])> {
+    let counted = COUNTED.into_iter().map(|(words, guard, rounds, ends)| {
+        let moves = format!("S 1/{guard}/T 0 0 1 0 0 0/T 0 0 0 0 0 0 0/T 0 0 0 0 0 0");
+        (words, spelled(&format!("{moves}/F 0/P 0 . 1 1 {rounds} 0/P 0 1 1/P 0 2 1 1 . 2")), 0, ends)
+    });
+    let sums = SUMS.into_iter().map(|(words, bound, greatest)| {
+        let moves = "S 1/S 3/S 0/T 0 0 0 0 0 0/T 0 1 0 0 0 0/T 1 2 0 0 0 0/T 2 2 0 0 0 0";
+        let sentences = format!("F 0/F 1 0/F 1 1/F 6 0 2 {bound} 1 1/F 4 3");
+        (words, spelled(&format!("{moves}/{sentences}/P 0 . 19 1 2 0/P 1 1 23/P 2 2 17 1 . 3")), 0, [1, greatest])
+    });
+    let goals = GOALS.into_iter().map(|(words, bound, greatest)| {
+        let sentences = format!("F 0/F 1 0/F 6 0 1 {bound} 1 1/F 4 2");
+        let records = format!("S 1/S 0/T 0 0 0 0 0 0/T 0 1 0 0 0 0/T 1 1 0 0 0 0/{sentences}/P 0 . 11 1 2 0/P 1 1 9 1 . 2");
+        (words, spelled(&records), 0, [1, greatest])
+    });
+    let planned = PLANNED.into_iter().map(|(words, records, k, ends)| (words, spelled(records), k, ends));
+    counted.chain(sums).chain(goals).chain(planned).collect()
+}
+
+/// The file of records in this notation.
+fn spelled(records: &str) -> Vec<u8> {
+    let record = |text: &str| {
+        let kind = LETTERS.iter().position(|&letter| letter == text.as_bytes()[0]).expect("a kind");
+        let mut fields = [None; 9];
+        text.split(' ').enumerate().skip(1).for_each(|(number, word)| fields[number] = word.parse().ok());
+        writer::record(kind, &fields, Slip::Nothing)
+    };
+    records.split('/').flat_map(record).collect()
 }
