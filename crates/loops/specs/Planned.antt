@@ -1,8 +1,6 @@
 -- What setting a loop's rounds hands back (document 02, item 7): the case that holds them, or the case as it was and why.
-use mathlib.Core.Bool.{Bool, true, false, cond}
+use mathlib.Core.Bool.{cond}
 use Prim.Native.Nat.{ℕ}
-use Rattle.items.specs.declared.LoopMark.{LoopMark}
-use Rattle.items.specs.declared.LoopMark.the-variants as mark
 use Rattle.answers.specs.Answers.{isSet}
 use Rattle.meaning.specs.Rounds.{withRounds}
 use Rattle.verdict.specs.Span.{loopAt, settingOf}
@@ -16,11 +14,3 @@ setCase c k n =
     let x = itemsOf c in
     let a = settingOf x k n in
     record { case = cond (isSet a) (caseOf (withRounds x (loopAt (x .places) k) n)) c; answer = a }
-
--- ---- as the code goes
-
--- whether a place with this loop mark begins a loop
-abbrev pub begins : LoopMark → Bool
-begins mark.None = false
-begins (mark.Counted l n b) = true
-begins (mark.Endless l b) = true

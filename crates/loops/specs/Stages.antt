@@ -1,53 +1,35 @@
 -- What each answer is, stage by stage, as the code goes. Assumes nothing.
-use mathlib.Core.Path.{_≡_, refl, sym, _∙_, ap, ap₂}
-use mathlib.Core.List.{[], _∷_}
+use mathlib.Core.Path.{_≡_, sym, _∙_, ap, ap₂}
 use mathlib.Core.Bool.{Bool, true, false, cond, true≢false}
 use Prim.Native.Nat.{ℕ, _<_}
 use native.Mathlib.Omega.{arith}
 use lib.ListN.{length}
-use Rattle.items.specs.declared.LoopMark.{LoopMark}
-use Rattle.items.specs.declared.LoopMark.the-variants as mark
+use Rattle.laws.specs.Tests.{by-test}
 use Rattle.items.specs.Lists.{Items}
-use Rattle.meaning.specs.Spans.{startIf, MayHave, placeRecord, SettingSays}
 use Rattle.answers.specs.declared.Judgement.{Judgement}
-use Rattle.answers.specs.declared.Judgement.the-variants.{Accepted, Unfinished, WrongStart, Unconnected, GuardFails, WrongMark, RootUnmarked}
+use Rattle.answers.specs.declared.Judgement.the-variants.{Accepted}
 use Rattle.answers.specs.declared.Setting.{Setting}
 use Rattle.answers.specs.declared.Setting.the-variants as setting
 use Rattle.answers.specs.declared.Span.the-variants as span
 use Rattle.answers.specs.Answers.{isSet}
 use Rattle.rules.specs.Rules.{markAt}
 use Rattle.rules.specs.Files.{itemCount}
-use Rattle.meaning.specs.Judged.{startOf}
-use Rattle.verdict.specs.Verdict.{finished, verdict}
-use Rattle.verdict.specs.Span.{loopAt, countedRounds, isAccepted, isNone, lastRounds, spanBy, spanOf, mayHave, settingBy, settingOf}
-use Rattle.meaning.specs.Rounds.{withRounds}
 use Rattle.collector.specs.declared.Case.{Case}
 use Rattle.collector.specs.Cases.{itemsOf, caseOf}
 use Rattle.collector.specs.Sound.{Sound}
+use Rattle.meaning.specs.Judged.{startOf}
+use Rattle.meaning.specs.Rounds.{withRounds}
+use Rattle.meaning.specs.Spans.{MayHave, placeRecord, SettingSays}
+use Rattle.verdict.specs.Verdict.{finished, verdict}
+use Rattle.verdict.specs.Span.{loopAt, countedRounds, isAccepted, isNone, lastRounds, spanBy, spanOf, mayHave, settingBy, settingOf}
 use Rattle.loops_laws.specs.Numbered.{counted-is, counted-held}
+use Rattle.loops_laws.specs.Spans.{accepted-only}
 use Rattle.loops_laws.specs.Set.{setting-tells}
-use Rattle.loops.specs.Planned.{begins, setCase}
-
--- whether a place begins a loop
-pub begins-none : (p : ℕ) (m : LoopMark) → begins m ≡ false → startIf p m ≡ []
-begins-none p mark.None e = refl
-begins-none p (mark.Counted l n b) e = absurd (true≢false e)
-begins-none p (mark.Endless l b) e = absurd (true≢false e)
-
-pub begins-one : (p : ℕ) (m : LoopMark) → begins m ≡ true → startIf p m ≡ p ∷ []
-begins-one p mark.None e = absurd (true≢false (sym e))
-begins-one p (mark.Counted l n b) e = refl
-begins-one p (mark.Endless l b) e = refl
+use Rattle.loops.specs.Planned.{setCase}
 
 -- a judgement that isn't 0
 pub refused : (a : Judgement) → (a ≡ Accepted → ⊥) → isAccepted a ≡ false
-refused Accepted h = absurd (h refl)
-refused (Unfinished n) h = refl
-refused WrongStart h = refl
-refused (Unconnected p t) h = refl
-refused (GuardFails p g) h = refl
-refused (WrongMark p i) h = refl
-refused (RootUnmarked r) h = refl
+refused a h = by-test (isAccepted a) (λ e. absurd (h (accepted-only a e))) (λ e. e)
 
 -- ---- setting rounds
 

@@ -33,11 +33,11 @@ use Rattle.verdict.specs.Verdict.{verdict}
 use Rattle.verdict.specs.Span.{loopAt, countedRounds, isAccepted, isNone, acceptsWith, halvings, lastRounds, spanBy, spanOf}
 use Rattle.verdict_laws.specs.Theorems.{judged, verdict-one}
 use Rattle.loops_laws.specs.Numbered.{counted-at, counted-is, counted-held, counted-rounds, no-counted}
-use Rattle.loops_laws.specs.Held.{sound-rounds}
+use Rattle.loops_laws.specs.Held.{withMark, sound-rounds}
 
 -- ---- the test
 
-accepted-only : (a : Judgement) → isAccepted a ≡ true → a ≡ Accepted
+pub accepted-only : (a : Judgement) → isAccepted a ≡ true → a ≡ Accepted
 accepted-only Accepted e = refl
 accepted-only (Unfinished n) e = absurd (true≢false (sym e))
 accepted-only WrongStart e = absurd (true≢false (sym e))
@@ -67,7 +67,7 @@ unfolding placesWith
 with-own x p l n b e =
     let ps = x .places in
     let q = placeAt ps p in
-    let d : placeWith n q ≡ q = ap (λ m. record { state = q .state; way = q .way; marks = q .marks; mark = m }) (ap (markWith n) e ∙ sym e) in
+    let d : placeWith n q ≡ q = ap (withMark q) (ap (markWith n) e ∙ sym e) in
     ap (withPlaces x) (ap (set ps p) d ∙ set-getD ps p (noItem kind.Place))
 
 pub accepted-own : {x : Items} {k p n : ℕ} → IsCounted (x .places) k p n → IsAccepted x (startOf x) → AcceptedWith x p n

@@ -2,6 +2,7 @@
 -- Never what a checker works out.
 use mathlib.Core.Path.{_≡_}
 use mathlib.Core.List.{List, [], _∷_}
+use mathlib.Core.Bool.{Bool, true, false, cond}
 use Prim.Native.Nat.{ℕ, _+_, _-_, _≤_, _<_}
 use lib.ListN.{length, getD}
 use Rattle.laws.specs.All.{from, gather}
@@ -20,11 +21,15 @@ use Rattle.meaning.specs.Rounds.{withRounds}
 
 -- ---- loops by number
 
+-- whether a place with this loop mark begins a loop
+abbrev pub begins : LoopMark → Bool
+begins mark.None = false
+begins (mark.Counted l n b) = true
+begins (mark.Endless l b) = true
+
 -- place p, where it begins a loop
 abbrev pub startIf : ℕ → LoopMark → List ℕ
-startIf p mark.None = []
-startIf p (mark.Counted l n b) = p ∷ []
-startIf p (mark.Endless l b) = p ∷ []
+startIf p m = cond (begins m) (p ∷ []) []
 
 -- the first places of the loops of a plan, in plan order: loop k begins with number k of them, counted from 0
 abbrev pub loopStarts : List Place → List ℕ

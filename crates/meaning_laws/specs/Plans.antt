@@ -19,6 +19,7 @@ use Rattle.meaning.specs.Drift.{onceAround, drift}
 use Rattle.meaning.specs.Truth.{bit}
 use Rattle.meaning.specs.Judged.{stateAt, waysInto, wayBack, wayIn, waysOf, placeBefore, Connects, testsOf, marked}
 use Rattle.meaning.specs.Rounds.{markWith, placeWith, placesWith, withRounds}
+use Rattle.meaning.specs.Spans.{begins}
 use Rattle.collector.proofs.Drifts.{once-same}
 use Rattle.verdict.specs.Rounds.{firstOf}
 use Rattle.meaning_laws.specs.Facts.{Laid}
@@ -31,14 +32,8 @@ mark-keeps f h n mark.None = refl
 mark-keeps f h n (mark.Counted l m b) = h l n m b
 mark-keeps f h n (mark.Endless l b) = refl
 
--- whether there is one
-isMarked : LoopMark → Bool
-isMarked mark.None = false
-isMarked (mark.Counted l n b) = true
-isMarked (mark.Endless l b) = true
-
-unmarked : (m : LoopMark) → isMarked m ≡ false → m ≡ mark.None
-unfolding isMarked
+-- one that begins no loop is none
+unmarked : (m : LoopMark) → begins m ≡ false → m ≡ mark.None
 unmarked mark.None e = refl
 unmarked (mark.Counted l n b) e = absurd (true≢false e)
 unmarked (mark.Endless l b) e = absurd (true≢false e)
@@ -70,8 +65,7 @@ module _ {ps qs : List Place} (e : SamePlan ps qs) where
   same-end p = ap (λ k. p + k) (same-loop lengthOf (λ l n m b. refl) p)
 
   pub same-none : (p : ℕ) → markAt ps p ≡ mark.None → markAt qs p ≡ mark.None
-  unfolding isMarked
-  same-none p d = unmarked (markAt qs p) (same-loop isMarked (λ l n m b. refl) p ∙ ap isMarked d)
+  same-none p d = unmarked (markAt qs p) (same-loop begins (λ l n m b. refl) p ∙ ap begins d)
 
   pub same-number : (w : Way) → moveNo qs w ≡ moveNo ps w
   same-number w = ap₂ (λ b r. cond (w .back) b r) (same-loop backOf (λ l n m b. refl) (w .place)) (e .ways (w .place))

@@ -1,6 +1,8 @@
 -- The loop goes over the places and counts loops. Assumes nothing.
 use mathlib.Core.Path.{_≡_, sym, _∙_, ap, subst}
-use Prim.Native.Nat.{_+_, _-_, _≤_, _<_}
+use mathlib.Core.List.{List, [], _∷_}
+use mathlib.Core.Bool.{Bool, cond}
+use Prim.Native.Nat.{ℕ, _+_, _-_, _≤_, _<_}
 use mathlib.Core.Logic.{⊎-elim}
 use native.Mathlib.Omega.{arith}
 use lib.ListN.{length}
@@ -10,11 +12,10 @@ use Rattle.items.specs.declared.Place.{Place}
 use Rattle.items.specs.Lists.{roomOf}
 use Rattle.collector.specs.Cases.{itemsOf}
 use Rattle.rules.specs.Rules.{markAt}
+use Rattle.meaning.specs.Spans.{begins}
 use Rattle.rules_laws.specs.Held.{counted}
 use Rattle.tables.specs.Reads.{at-places}
 use Rattle.loops_laws.specs.Numbered.{Seeks, seek-start, seek-none, seek-loop, seek-found, seek-end}
-use Rattle.loops.specs.Planned.{begins}
-use Rattle.loops.specs.Stages.{begins-none, begins-one}
 use Rattle.loops.proofs.loop_at.Statement.{statement}
 use Rattle.loops.proofs.loop_at.Tie as tie
 
@@ -62,12 +63,16 @@ module _ (c : tie.After-begins Inv-loop μ-loop) where
   told : c .begins .result ≡ begins (markAt (itemsOf (t m .args .c) .places) (l m .loop .p))
   told = c .begins .ensures ∙ ap (λ (q : Place). begins (q .mark)) (at-places (t m .pre) (l m .loop .p))
 
+-- place p, by whether it begins a loop
+abbrev startsBy : ℕ → Bool → List ℕ
+startsBy p t = cond t (p ∷ []) []
+
 returns : tie.Need-returns Inv-loop μ-loop
 returns c =
     let b = c .before .before in
     let d = m b in
     seek-found (itemsOf (t d .args .c) .places) (t d .args .k) (l d .loop .p) (l d .loop .left) (inside d)
-    (begins-one (l d .loop .p) (markAt (itemsOf (t d .args .c) .places) (l d .loop .p)) (sym (told b) ∙ c .before .if2 .taken)) (c .if3 .taken) (l d .loop .inv .1)
+    (ap (startsBy (l d .loop .p)) (sym (told b) ∙ c .before .if2 .taken)) (c .if3 .taken) (l d .loop .inv .1)
 
 sub-left : tie.Need-sub-left Inv-loop μ-loop
 sub-left c = omega (arith, c .if3 .left)
@@ -87,10 +92,10 @@ loop-again c =
       ⊎-elim
           (λ w.
           subst (Seeks ps (t d .args .k) (p + 1)) (sym (w .2))
-          (seek-loop ps (t d .args .k) p (l d .loop .left) (inside d) (begins-one p (markAt ps p) (sym (told (c .before)) ∙ w .0 .taken)) (omega (arith, w .1 .left)) (l d .loop .inv .1)))
+          (seek-loop ps (t d .args .k) p (l d .loop .left) (inside d) (ap (startsBy p) (sym (told (c .before)) ∙ w .0 .taken)) (omega (arith, w .1 .left)) (l d .loop .inv .1)))
           (λ w.
           subst (Seeks ps (t d .args .k) (p + 1)) (sym (w .1))
-          (seek-none ps (t d .args .k) p (l d .loop .left) (inside d) (begins-none p (markAt ps p) (sym (told (c .before)) ∙ w .0 .left)) (l d .loop .inv .1)))
+          (seek-none ps (t d .args .k) p (l d .loop .left) (inside d) (ap (startsBy p) (sym (told (c .before)) ∙ w .0 .left)) (l d .loop .inv .1)))
           (c .if2 .came),
     )
 

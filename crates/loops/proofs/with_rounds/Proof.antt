@@ -5,12 +5,10 @@ use native.Mathlib.Omega.{arith}
 use lib.ListN.{getD, set}
 use borrow.Author.Needs.{needs}
 use Rattle.kinds.specs.declared.Kind.the-variants as kind
-use Rattle.items.specs.declared.LoopMark.{LoopMark}
-use Rattle.items.specs.declared.Place.{Place}
 use Rattle.items.specs.Lists.{roomOf, noItem, withPlaces}
 use Rattle.collector.specs.Cases.{caseBy, arraysOf}
 use Rattle.rules_laws.specs.Held.{counted}
-use Rattle.loops_laws.specs.Held.{case-rounds}
+use Rattle.loops_laws.specs.Held.{withMark, case-rounds}
 use Rattle.loops.proofs.with_rounds.Statement.{statement}
 use Rattle.loops.proofs.with_rounds.Tie as tie
 
@@ -39,11 +37,7 @@ returns c =
     let o = t .args .c in
     let p = t .args .p in
     let q = getD (o .places) p (noItem kind.Place) in
-    ap
-    (λ (m : LoopMark).
-    caseBy (o .count) (o .loops) (o .drifts)
-    (withPlaces (arraysOf o) (set (o .places) p (record { state = q .state; way = q .way; marks = q .marks; mark = m }))))
-    (c .mark-with .ensures)
+    ap (λ m. caseBy (o .count) (o .loops) (o .drifts) (withPlaces (arraysOf o) (set (o .places) p (withMark q m)))) (c .mark-with .ensures)
     ∙ sym (case-rounds (t .pre .0) p (t .args .n) (t .pre .1))
 
 pub with-rounds-spec : {M : Type 1} → statement M
