@@ -7,4 +7,5 @@ pub mod Paper
 pub mod Files
 pub mod Rounds
 pub mod Spans
+pub mod Cut
 pub mod Listed
