@@ -3,7 +3,7 @@ use mathlib.Core.Path.{_≡_, refl, _∙_, sym, ap}
 use mathlib.Core.Logic.{inl, inr, ⊎-elim}
 use mathlib.Core.List.{List, [], _∷_, List·Memᴰ·append-cases}
 use mathlib.Core.Bool.{Bool, true, false, cond, true≢false}
-use Prim.Native.Nat.{ℕ, zero, suc, _+_, _-_, _≤_, _<_}
+use Prim.Native.Nat.{ℕ, zero, suc, _+_, _≤_, _<_}
 use native.Mathlib.Omega.{arith}
 use lib.Dec.{eqb, lit<}
 use lib.ListN.{length}
@@ -113,12 +113,12 @@ module _ (c : Case) (s : Sound c) where
       into : (p : ℕ) → p < length (x .places) → placeAt (x .places) p .way ≡ ref.At t → t < length (x .moves)
       into zero h e = let z : _≡_ {A = ℕ} 0 1 = cc (facts c s .start) in absurd (omega arith)
       into (suc p) h e =
-          let (u, q, l) = facts c s .ways (suc p) (omega arith) h in
+          let (u, q, l) = facts c s .resolved .ways (suc p) (omega arith) h in
           let r : u ≡ t = cc in
           omega arith
 
       go : (b : Bool) → cond b (backOf (placeAt (x .places) (w .place) .mark)) (placeAt (x .places) (w .place) .way) ≡ ref.At t → t < length (x .moves)
-      go true = facts c s .backs (w .place) t h
+      go true = facts c s .resolved .backs (w .place) t h
       go false = into (w .place) h
 
   number-small : (r : Ref) → MoveThere r → judge.refNumber r < roomOf kind.Move
@@ -128,7 +128,7 @@ module _ (c : Case) (s : Sound c) where
   guards-small : (r : Ref) → MoveThere r → All (λ g. g < roomOf kind.Guard) (guardsOf (moveAt (x .moves) r))
   unfolding moveAt
   guards-small ref.None k = none
-  guards-small (ref.At t) k = all-map (λ g l. omega (arith, held kind.Guard)) (facts c s .guards t (k t refl))
+  guards-small (ref.At t) k = all-map (λ g l. omega (arith, held kind.Guard)) (facts c s .resolved .guards t (k t refl))
 
   -- what is found is in range
   abbrev WayFits : Way → Type 0

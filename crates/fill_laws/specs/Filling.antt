@@ -108,7 +108,7 @@ module _ (x : Items) (f : Facts x) (o : Closed x) (θ : Valuation) (i : ℕ) (l 
             rw (marks-at ν ps p g) (set-bound i (placeAt ps p .marks) (k .low p g) (sets p));
         right = λ j w m.
             let p = here (spot ps m) in
-            let h = in-plan x (f .laid) o m in
+            let h = in-plan x (f .resolved .laid) o m in
             let n = placeAt ps p .marks in
             rw (same-spot x ν m, same-true x ν θ j m, marked-is x ν j p h)
             (elim (decLt j i) [

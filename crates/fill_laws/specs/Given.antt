@@ -85,7 +85,7 @@ module _ (c : Case) (s : Sound c) (o : Closed (itemsOf c)) (θ : Valuation) wher
       with-same x μ ν (λ p h.
       bits-same n (μ p) (ν p) (low-own x μ .1 (a .within) p h) (low-own x ν .1 (b .within) p h)
       (λ i l.
-      let (m, e, r) = visit x (facts c s .laid) o p h 0 (in-zero (loopOf (x .places) p)) in
+      let (m, e, r) = visit x (facts c s .resolved .laid) o p h 0 (in-zero (loopOf (x .places) p)) in
       same-flag (bit (μ p) i) (bit (ν p) i) (told μ a p h i l m e) (told ν b p h i l m e)))
     where
       told : (κ : ℕ → ℕ) → RightMarks (withMarks x κ) θ → (p : ℕ) → p < length (x .places) → (i : ℕ) → i < n → (m : Moment) → here (spot (x .places) m) ≡ p → Tells (bit (κ p) i) (TrueAt x θ i m)
@@ -112,7 +112,7 @@ module _ (c : Case) (s : Sound c) (o : Closed (itemsOf c)) (θ : Valuation) wher
         place-there = omega (arith, h .there);
         varies = unlooked (λ y. Varies y θ k) (λ y μ. still-varies y μ θ k) x (λ p. 0) .0 (h .varies);
         none-below = λ i p l w.
-            steady-or-varies z θ (markFor i p) (h .below i p (omega arith) l (omega (arith, in-plan x (facts c s .laid) o (w .one), w .one-there))) (v (markFor i p) w);
+            steady-or-varies z θ (markFor i p) (h .below i p (omega arith) l (omega (arith, in-plan x (facts c s .resolved .laid) o (w .one), w .one-there))) (v (markFor i p) w);
         none-before = λ p l w. steady-or-varies z θ (markFor (k .sentence) p) (h .before p l) (v (markFor (k .sentence) p) w);
       }
 

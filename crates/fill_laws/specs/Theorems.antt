@@ -84,7 +84,7 @@ right-judged c s θ l = by (marked x (root x) 0) refl
     told : (marked x (root x) 0 ≡ true) ↔ TrueAt x θ (root x) 0
     told =
         let f = l .0 .0 .0 .0 in
-        all-grid (length (x .sentences)) (length (x .places)) .0 (l .1) (root x) 0 (omega (arith, f .0)) (in-plan x (facts c s .laid) (f .1) 0) .same 0 refl
+        all-grid (length (x .sentences)) (length (x .places)) .0 (l .1) (root x) 0 (omega (arith, f .0)) (in-plan x (facts c s .resolved .laid) (f .1) 0) .same 0 refl
 
     by : (b : Bool) → marked x (root x) 0 ≡ b → ByRoot x θ (verdict x θ)
     by true e = inl (told .0 e, sym (verdict-one c s θ Accepted (l, e)))

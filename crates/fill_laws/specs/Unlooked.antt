@@ -1,12 +1,12 @@
 -- What doesn't look at the marks: the run, truth, the refusals before 34, by their meaning and as they are computed, and the tables of judging. Assumes nothing.
-use mathlib.Core.Path.{_≡_, refl, sym, _∙_, ap, ap₂, subst, fun-ext}
+use mathlib.Core.Path.{_≡_, refl, sym, _∙_, ap, subst, fun-ext}
 use mathlib.Core.Logic.{_⊎_}
 use mathlib.Core.List.{List, _++_}
 use mathlib.Core.Bool.{Bool, true, false, cond, _&&_}
 use Prim.Native.Nat.{ℕ, zero, suc, _+_, _-_}
 use lib.Dec.{ltb, leb, eqb}
 use lib.IntN.{pos, _+ℤ_, _*ℤ_}
-use lib.ListN.{length, getD, replicate}
+use lib.ListN.{length, replicate}
 use Rattle.laws.specs.All.{All, First, this, later}
 use Rattle.laws.specs.Members.{all-map}
 use Rattle.laws.specs.Tab.{tab}
@@ -15,18 +15,18 @@ use Rattle.kinds.specs.Kinds.{countsTotal}
 use Rattle.counters.specs.Sum.{Valuation, sum}
 use Rattle.counters.specs.Vectors.{vecOf, noValues}
 use Rattle.items.specs.declared.LoopMark.{LoopMark}
-use Rattle.items.specs.declared.Move.{Move}
 use Rattle.items.specs.declared.Place.{Place}
-use Rattle.items.specs.Lists.{Items, roomOf, noItem}
+use Rattle.items.specs.Lists.{Items, roomOf}
 use Rattle.answers.specs.declared.Judgement.{Judgement}
 use Rattle.answers.specs.declared.Judgement.the-variants.{Accepted, Unfinished, WrongStart, Unconnected, GuardFails, WrongMark, RootUnmarked}
 use Rattle.rules.specs.Rules.{markAt, Closed}
 use Rattle.standing.specs.Standing.{isClosed}
-use Rattle.meaning.specs.Run.{Moment, Spot, Step, Way, here, stretch, goesAgain, next, spot, wayTaken, moveBy, update, countersAt, guardAt, Meets}
+use Rattle.meaning.specs.Run.{Moment, Spot, Step, Way, here, stretch, goesAgain, next, spot, wayTaken, moveNo, update, countersAt, guardAt, Meets}
 use Rattle.meaning.specs.Drift.{drift}
-use Rattle.meaning.specs.Judged.{startOf, stateAt, waysOf, Connects, Test, testsOf, Mark, MetAfter, Passes, Fails, TrueAt, traceOf, Started, Connected, Guarded, Judged}
+use Rattle.meaning.specs.Judged.{startOf, stateAt, waysOf, Connects, Test, testsOf, Mark, MetAfter, Passes, Fails, TrueAt, Started, Connected, Guarded, Judged}
 use Rattle.meaning.specs.Marking.{markedFrom, withMarks, Varies, Steady}
-use Rattle.meaning_laws.specs.Answers.{same-truth}
+use Rattle.meaning_laws.specs.SameRun.{SameRun}
+use Rattle.meaning_laws.specs.SameRun as runs
 use Rattle.meaning_laws.specs.Plans.{SamePlan, plan-back, same-number, same-first, same-move, same-ways, same-tests, same-state-before, same-connects, same-closed, same-drift}
 use Rattle.verdict.specs.declared.Rounds.the-variants as rounds
 use Rattle.verdict.specs.Rounds.{firstOf, loopOf, roundsOf, through}
@@ -86,18 +86,20 @@ module _ (x : Items) (μ : ℕ → ℕ) where
   pub same-way : (m : Moment) → wayTaken (withMarks x μ .places) m ≡ wayTaken (x .places) m
   same-way m = λ i. record { place = here (same-spot (suc m) i); back = (same-next (spot qs m) ∙ ap (next ps) (same-spot m)) i .back }
 
+  run : SameRun ps qs
+  run =
+      record {
+        moves = λ m. same-number plan (wayTaken qs m) ∙ ap (moveNo ps) (same-way m);
+        states = λ m. plan .states (here (spot qs m)) ∙ ap (λ s. stateAt x (here s)) (same-spot m);
+      }
+
   pub same-counters : (θ : Valuation) (m : Moment) (j : ℕ) → countersAt (withMarks x μ) θ m j ≡ countersAt x θ m j
-  unfolding countersAt
-  same-counters θ zero j = refl
-  same-counters θ (suc m) j =
-      ap₂ (λ z (v : Move). z +ℤ update v j) (same-counters θ m j) (same-move x plan (wayTaken qs m) ∙ ap (moveBy x) (same-way m))
+  same-counters = runs.same-counters x run
 
   -- ---- truth
 
   pub same-true : (θ : Valuation) (i : ℕ) (m : Moment) → TrueAt (withMarks x μ) θ i m ≡ TrueAt x θ i m
-  same-true θ =
-      same-truth (x .guards) (x .sentences) (traceOf y θ) (traceOf x θ)
-      (λ m. ap (λ z. getD (x .states) z (noItem kind.State) .propositions) (plan .states (here (spot qs m)) ∙ ap (λ s. stateAt x (here s)) (same-spot m))) (same-counters θ)
+  same-true = runs.same-true x run
 
   pub still-varies : (θ : Valuation) (k : Mark) → Varies x θ k → Varies (withMarks x μ) θ k
   still-varies θ k v =

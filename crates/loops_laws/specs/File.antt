@@ -35,8 +35,9 @@ use Rattle.collector.specs.Sound.{Sound}
 use Rattle.rules_laws.specs.Held.{items-of, counted}
 use Rattle.rules_laws.specs.Written.{can-spell, record-long}
 use Rattle.rules_laws.specs.Theorems as taking
+use Rattle.places.specs.OneField.{withMark}
 use Rattle.loops_laws.specs.Numbered.{counted-held, counted-rounds}
-use Rattle.loops_laws.specs.Held.{withMark, sound-rounds}
+use Rattle.loops_laws.specs.Held.{sound-rounds}
 
 -- two files that are the same but for the rounds field of record r, which spells m in the one and n in the other
 pub record Respelled (bs cs : List ℕ) (r m n : ℕ) : Type 0 where

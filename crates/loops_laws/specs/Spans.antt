@@ -32,8 +32,9 @@ use Rattle.meaning_laws.specs.Theorems.{one-answer, between-own}
 use Rattle.verdict.specs.Verdict.{verdict}
 use Rattle.verdict.specs.Span.{loopAt, countedRounds, isAccepted, isNone, acceptsWith, halvings, lastRounds, spanBy, spanOf}
 use Rattle.verdict_laws.specs.Theorems.{judged, verdict-one}
+use Rattle.places.specs.OneField.{withMark}
 use Rattle.loops_laws.specs.Numbered.{counted-at, counted-is, counted-held, counted-rounds, no-counted}
-use Rattle.loops_laws.specs.Held.{withMark, sound-rounds}
+use Rattle.loops_laws.specs.Held.{sound-rounds}
 
 -- ---- the test
 

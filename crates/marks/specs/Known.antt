@@ -62,7 +62,7 @@ module _ {c : Case} (s : Sound c) (p : ℕ) where
   state-within =
       rw (at-places s p)
       (by-end (λ (y : Place). y .state < roomOf kind.State) (itemsOf c .places) (noItem kind.Place) p
-      (λ h. omega (arith, facts c s .states p h, counted c s kind.State, s .room kind.State)) (omega arith))
+      (λ h. omega (arith, facts c s .resolved .states p h, counted c s kind.State, s .room kind.State)) (omega arith))
 
   pub simple-is : (φ : Form) →
       flag (sameAlways φ (getD (c .states) (placeHere .state) (noItem kind.State) .propositions) (placeHere .marks)) ≡ simpleThrough (itemsOf c) φ p

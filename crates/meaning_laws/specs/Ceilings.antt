@@ -62,11 +62,11 @@ module _ (x : Items) (f : Facts x) where
       (λ d. record { inside = omega arith; few = few-again k (y .round) (λ l n b q. f .rounds (y .first) l n b q .1) d; soon = omega (arith, p .soon) })
       (λ d.
       let r : (y .round + 1) * L ≤ 1000000 * L = mul-le-mul-right L (⊎-elim (λ t. absurd (ended k (y .round) d t)) (λ t. omega arith) (p .few)) in
-      record { inside = f .laid .long (y .first + L); few = inr (omega arith); soon = omega (arith, p .soon) }))
+      record { inside = f .resolved .laid .long (y .first + L); few = inr (omega arith); soon = omega (arith, p .soon) }))
 
   paced : (m : Moment) → Paced ps m (spot ps m)
   unfolding spot
-  paced zero = record { inside = f .laid .long 0; few = inr (omega arith); soon = omega arith }
+  paced zero = record { inside = f .resolved .laid .long 0; few = inr (omega arith); soon = omega arith }
   paced (suc m) = paced-next m (spot ps m) (paced m)
 
   -- so many moments there are at most

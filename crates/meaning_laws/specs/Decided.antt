@@ -2,7 +2,7 @@
 use mathlib.Core.Path.{_≡_, refl, sym, _∙_, ap}
 use mathlib.Core.Logic.{_↔_, _⊎_, inl, inr, ⊎-elim, Iff·symm}
 use mathlib.Core.Bool.{Bool, true, false, false≢true}
-use Prim.Native.Nat.{ℕ, suc, _+_, _-_, _≤_, _<_}
+use Prim.Native.Nat.{ℕ, suc, _+_, _≤_, _<_}
 use native.Mathlib.Omega.{arith}
 use lib.ListN.{length, getD}
 use Rattle.laws.specs.Arithmetic.{le-out, le-or}
@@ -67,7 +67,7 @@ module _ (x : Items) (facts : Facts x) (c : Closed x) (θ : Valuation) (i : ℕ)
       (below-decided a (r .0) m)
   says-decided (form.Not a) r m = ⊎-elim (λ p. inr (λ n. n p)) inl (below-decided a r m)
   says-decided (form.Next a) r m = below-decided a r (suc m)
-  says-decided (form.Until a b z t u) r m = let e = comes-again x (facts .laid) c in
+  says-decided (form.Until a b z t u) r m = let e = comes-again x (facts .resolved .laid) c in
       iff-decided (Iff·symm (until-labels x θ i a b z t u r right m))
       (gets-decided (λ k. labelOf (marked x) a b t u (here (spot (x .places) k))) (e .moment) (e .round) (e .long) (λ j h. ap (labelOf (marked x) a b t u) (e .same j h)) z m)
 

@@ -52,17 +52,20 @@ mostStart = 10000000
 abbrev pub StartHas : Weights → Type 0
 StartHas w = (length (w .at) ≡ counters) × All (Within mostStart) (w .at)
 
--- what is known of the items of a case with the invariant
-pub record Facts (x : Items) : Type 0 where
+-- what the run of a plan needs: loops lie well, and what the plan and its moves name is there
+pub record Resolved (x : Items) : Type 0 where
   pub laid : Laid (x .places)
-  pub room : (p : ℕ) → p < length (x .places) → p + stretch (markAt (x .places) p) ≤ roomOf kind.Place
-  pub rounds : (p l n b : ℕ) → markAt (x .places) p ≡ mark.Counted l n b → (1 ≤ n) × (n ≤ 1000000)
-  -- what is named is there
   pub states : (p : ℕ) → p < length (x .places) → placeAt (x .places) p .state < length (x .states)
-  pub start : placeAt (x .places) 0 .way ≡ ref.None
   pub ways : (p : ℕ) → 0 < p → p < length (x .places) → (t : ℕ) × (placeAt (x .places) p .way ≡ ref.At t) × (t < length (x .moves))
   pub backs : (p t : ℕ) → p < length (x .places) → backOf (placeAt (x .places) p .mark) ≡ ref.At t → t < length (x .moves)
   pub guards : (t : ℕ) → t < length (x .moves) → All (λ g. g < length (x .guards)) (guardsOf (moveAt (x .moves) (ref.At t)))
+
+-- what is known of the items of a case with the invariant
+pub record Facts (x : Items) : Type 0 where
+  pub resolved : Resolved x
+  pub room : (p : ℕ) → p < length (x .places) → p + stretch (markAt (x .places) p) ≤ roomOf kind.Place
+  pub rounds : (p l n b : ℕ) → markAt (x .places) p ≡ mark.Counted l n b → (1 ≤ n) × (n ≤ 1000000)
+  pub start : placeAt (x .places) 0 .way ≡ ref.None
   pub refers : (i : ℕ) → i < length (x .sentences) → Refers i (getD (x .sentences) i (noItem kind.Sentence) .form)
   -- numbers are in their ranges
   pub updates : (t : Ref) (j : ℕ) → Within 9999 (update (moveAt (x .moves) t) j)

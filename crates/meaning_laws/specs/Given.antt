@@ -269,25 +269,28 @@ module _ (c : Case) (s : Sound c) where
   unfolding moveAt
   facts =
       record {
-        laid =
+        resolved =
             record {
-              long = λ p. has-places (length (x .moves)) (markAt (x .places) p) (marks p);
-              apart = λ p q h l m. ends p q (markAt (x .places) p) h (s .loops .apart p q h l m);
-              last = λ p e. omega (arith, s .loops .last p e, no-shorter (markAt (x .places) p));
+              laid =
+                  record {
+                    long = λ p. has-places (length (x .moves)) (markAt (x .places) p) (marks p);
+                    apart = λ p q h l m. ends p q (markAt (x .places) p) h (s .loops .apart p q h l m);
+                    last = λ p e. omega (arith, s .loops .last p e, no-shorter (markAt (x .places) p));
+                  };
+              states = λ p h. place-held p h .0;
+              ways =
+                  λ p l h.
+                  has-way (length (x .moves)) _ (place-held p h .1)
+                  (λ e. let z = s .ways p (omega (arith, counted c s kind.Place)) .1 e in omega arith);
+              backs = λ p t h. has-back (length (x .moves)) t (markAt (x .places) p) (marks p);
+              guards = λ t h. move-held t h .0;
             };
         room =
             λ p h. ends p (roomOf kind.Place) (markAt (x .places) p) (omega (arith, counted c s kind.Place, s .room kind.Place)) (s .loops .within p h);
         rounds = λ p l n b e. let h : MarkHas (length (x .moves)) (mark.Counted l n b) = subst (MarkHas _) e (marks p) in (h .2, h .3);
-        states = λ p h. place-held p h .0;
         start =
             by-end (λ (p : Place). p .way ≡ ref.None) (x .places) (noItem kind.Place) 0
             (λ h. s .ways 0 (omega (arith, counted c s kind.Place)) .0 refl) refl;
-        ways =
-            λ p l h.
-            has-way (length (x .moves)) _ (place-held p h .1)
-            (λ e. let z = s .ways p (omega (arith, counted c s kind.Place)) .1 e in omega arith);
-        backs = λ p t h. has-back (length (x .moves)) t (markAt (x .places) p) (marks p);
-        guards = λ t h. move-held t h .0;
         refers = held kind.Sentence SentenceHas (λ n r f t. form-has n (sentenceOf r .form) t);
         weights = by-end StartHas (x .weights) (noItem kind.Weights) 0 (weights-held 0) (refl, zeros-within mostStart counters refl);
         updates = λ t. all-at (Within 9999) _ (pos 0) (adds t) (field-within 9999 (pos 0) refl);

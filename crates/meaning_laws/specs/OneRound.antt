@@ -155,5 +155,5 @@ kept-is-added c s θ m j h a e =
     let x = itemsOf c in
     let q = spot (x .places) m .first in
     let n = marked-held (x .places) q (λ z. true≢false (sym a ∙ ap (λ k. goesAgain k (spot (x .places) m .round)) z)) in
-    one-round-later x (facts c s .laid) m a θ j
+    one-round-later x (facts c s .resolved .laid) m a θ j
     ∙ ap (λ z. countersAt x θ m j +ℤ z) (sym (keeps-drifts c s .closed q j (omega (arith, counted c s kind.Place)) h e))

@@ -27,16 +27,24 @@ use Rattle.meaning_laws.specs.Facts.{Laid}
 -- ---- a loop mark
 
 -- what doesn't look at its rounds
-mark-keeps : {B : Type 0} (f : LoopMark → B) → ((l n m b : ℕ) → f (mark.Counted l n b) ≡ f (mark.Counted l m b)) → (n : ℕ) (k : LoopMark) → f (markWith n k) ≡ f k
+pub mark-keeps : {B : Type 0} (f : LoopMark → B) → ((l n m b : ℕ) → f (mark.Counted l n b) ≡ f (mark.Counted l m b)) → (n : ℕ) (k : LoopMark) → f (markWith n k) ≡ f k
 mark-keeps f h n mark.None = refl
 mark-keeps f h n (mark.Counted l m b) = h l n m b
 mark-keeps f h n (mark.Endless l b) = refl
 
--- one that begins no loop is none
-unmarked : (m : LoopMark) → begins m ≡ false → m ≡ mark.None
-unmarked mark.None e = refl
-unmarked (mark.Counted l n b) e = absurd (true≢false e)
-unmarked (mark.Endless l b) e = absurd (true≢false e)
+-- two that are the same but for their rounds
+module _ {j k : LoopMark} (e : markWith 0 j ≡ markWith 0 k) where
+  pub loop-same : {B : Type 0} (f : LoopMark → B) → ((l n m b : ℕ) → f (mark.Counted l n b) ≡ f (mark.Counted l m b)) → f j ≡ f k
+  loop-same f h = sym (mark-keeps f h 0 j) ∙ ap f e ∙ mark-keeps f h 0 k
+
+  pub none-same : k ≡ mark.None → j ≡ mark.None
+  none-same d = unmarked j (loop-same begins (λ l n m b. refl) ∙ ap begins d)
+    where
+      -- one that begins no loop is none
+      unmarked : (m : LoopMark) → begins m ≡ false → m ≡ mark.None
+      unmarked mark.None e = refl
+      unmarked (mark.Counted l n b) e = absurd (true≢false e)
+      unmarked (mark.Endless l b) e = absurd (true≢false e)
 
 -- ---- places that are the same but for rounds and marks
 
@@ -53,7 +61,7 @@ module _ {ps qs : List Place} (e : SamePlan ps qs) where
 
   -- what of a loop mark doesn't look at its rounds
   pub same-loop : {B : Type 0} (f : LoopMark → B) → ((l n m b : ℕ) → f (mark.Counted l n b) ≡ f (mark.Counted l m b)) → (p : ℕ) → f (markAt qs p) ≡ f (markAt ps p)
-  same-loop f h p = sym (mark-keeps f h 0 (markAt qs p)) ∙ ap f (e .loops p) ∙ mark-keeps f h 0 (markAt ps p)
+  same-loop f h p = loop-same {j = markAt qs p} {k = markAt ps p} (e .loops p) f h
 
   same-stretch : (p : ℕ) → stretch (markAt qs p) ≡ stretch (markAt ps p)
   same-stretch = same-loop stretch (λ l n m b. refl)
@@ -65,7 +73,7 @@ module _ {ps qs : List Place} (e : SamePlan ps qs) where
   same-end p = ap (λ k. p + k) (same-loop lengthOf (λ l n m b. refl) p)
 
   pub same-none : (p : ℕ) → markAt ps p ≡ mark.None → markAt qs p ≡ mark.None
-  same-none p d = unmarked (markAt qs p) (same-loop begins (λ l n m b. refl) p ∙ ap begins d)
+  same-none p = none-same {j = markAt qs p} {k = markAt ps p} (e .loops p)
 
   pub same-number : (w : Way) → moveNo qs w ≡ moveNo ps w
   same-number w = ap₂ (λ b r. cond (w .back) b r) (same-loop backOf (λ l n m b. refl) (w .place)) (e .ways (w .place))
@@ -143,7 +151,7 @@ set-keeps f (a ∷ l) (suc s) (suc p) v d e = set-keeps f l s p v d e
 
 module _ (ps : List Place) (s n : ℕ) where
   -- what of a place doesn't look at its rounds
-  same-field : {B : Type 0} (f : Place → B) → ((p : Place) → f (placeWith n p) ≡ f p) → (p : ℕ) → f (placeAt (placesWith ps s n) p) ≡ f (placeAt ps p)
+  pub same-field : {B : Type 0} (f : Place → B) → ((p : Place) → f (placeWith n p) ≡ f p) → (p : ℕ) → f (placeAt (placesWith ps s n) p) ≡ f (placeAt ps p)
   unfolding placesWith
   same-field f h p = set-keeps f ps s p (placeWith n (placeAt ps s)) (noItem kind.Place) (h (placeAt ps s))
 

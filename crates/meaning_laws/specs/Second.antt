@@ -14,7 +14,7 @@ use Rattle.items.specs.Lists.{Items, noItem}
 use Rattle.meaning.specs.Run.{Moment, Way, Meets, here, spot, wayTaken, moveAt, moveBy, countersAt, guardAt, guardsOf}
 use Rattle.meaning.specs.Judged.{stateAt, waysOf, testsOf, Passes, root, Finished, Connected, IsAccepted}
 use Rattle.meaning.specs.Paper.{IsItem, top, below, Fires, Means}
-use Rattle.meaning_laws.specs.Facts.{Facts}
+use Rattle.meaning_laws.specs.Facts.{Resolved}
 use Rattle.meaning_laws.specs.Lists.{all-grid}
 use Rattle.meaning_laws.specs.Stays.{in-plan, from-there, way-there}
 
@@ -30,7 +30,7 @@ module _ {A : Type 0} where
   item-is d top = refl
   item-is d (below i) = item-is d i
 
-module _ (x : Items) (f : Facts x) (o : Finished x) (θ : Valuation) where
+module _ (x : Items) (f : Resolved x) (o : Finished x) (θ : Valuation) where
   -- every guard of every way
   tests :
       All (Passes x θ) (testsOf x) ↔

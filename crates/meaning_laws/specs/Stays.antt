@@ -1,11 +1,12 @@
 -- The run of a closed plan stays in the plan, and each way that it takes is one of the plan's, from the place where it was. Assumes nothing.
-use mathlib.Core.Path.{_≡_, refl}
+use mathlib.Core.Path.{_≡_, refl, subst}
 use mathlib.Core.Logic.{⊎-elim}
 use mathlib.Core.List.{List, List·Memᴰ·head, Memᴰ·append-left, Memᴰ·append-right}
 use mathlib.Core.Bool.{Bool, true, false, true≢false, false≢true}
 use Prim.Native.Nat.{ℕ, zero, suc, _+_, _≤_, _<_}
 use native.Mathlib.Nat.{add-zero, eq-or-lt-of-le}
 use native.Mathlib.Omega.{arith}
+use native.Mathlib.Decide.{decLt}
 use lib.Dec.{ltb}
 use lib.ListN.{length}
 use borrow.Author.Tests.{ltb-true, ltb-false}
@@ -13,13 +14,14 @@ use Rattle.laws.specs.Tests.{cond-by}
 use Rattle.laws.specs.Members.{Has, has-below, has-gather}
 use Rattle.items.specs.declared.LoopMark.{LoopMark}
 use Rattle.items.specs.declared.LoopMark.the-variants as mark
+use Rattle.items.specs.declared.Ref.{Ref}
 use Rattle.items.specs.declared.Ref.the-variants as ref
 use Rattle.items.specs.declared.Place.{Place}
 use Rattle.items.specs.Lists.{Items}
 use Rattle.rules.specs.Rules.{markAt, Closed}
 use Rattle.meaning.specs.Run.{Moment, Spot, Step, Way, here, stretch, goesAgain, next, spot, wayTaken, backOf, placeAt, moveNo}
 use Rattle.meaning.specs.Judged.{placeBefore, waysOf, waysInto, wayIn, wayBack}
-use Rattle.meaning_laws.specs.Facts.{Laid, Facts}
+use Rattle.meaning_laws.specs.Facts.{Laid, Resolved}
 use Rattle.meaning_laws.specs.Walk.{endless-is}
 
 -- ---- a step
@@ -88,6 +90,23 @@ module _ (x : Items) (laid : Laid (x .places)) where
     ends-before q h =
         laid .apart q (c .first) h (omega (arith, laid .long (c .first), whole)) (λ n. let z : _≡_ {A = ℕ} 0 1 = cc (loop .2) in omega arith)
 
+    -- every stretch ends in the plan
+    pub ends-in : (q : ℕ) → q < length (x .places) → q + stretch (markAt (x .places) q) ≤ length (x .places)
+    ends-in q h =
+        elim (decLt q (c .first)) [
+          | yes a ↦ omega (arith, ends-before q a, whole)
+          | no a ↦ elim (decLt (c .first) q) [ yes d ↦ by d (markAt ps q) refl | no d ↦ let e : c .first ≡ q = omega arith in subst (λ z. z + stretch (markAt ps z) ≤ length ps) e whole ]
+        ]
+      where
+        -- no loop begins in the endless one
+        none : c .first < q → (markAt ps q ≡ mark.None → ⊥) → ⊥
+        none d m = omega (arith, laid .apart (c .first) q d h m, laid .last (c .first) (c .endless))
+
+        by : c .first < q → (m : LoopMark) → markAt ps q ≡ m → q + stretch m ≤ length ps
+        by d mark.None e = omega arith
+        by d (mark.Counted l n b) e = absurd (none d (λ z. let w : _≡_ {A = ℕ} 0 1 = cc in omega arith))
+        by d (mark.Endless l b) e = absurd (none d (λ z. let w : _≡_ {A = ℕ} 0 1 = cc in omega arith))
+
     -- no stretch of the run begins after the endless loop
     not-past : (m : Moment) → spot ps m .first ≤ c .first
     unfolding spot
@@ -117,37 +136,45 @@ pub record IsWay (x : Items) (w : Way) : Type 0 where
   pub named : moveNo (x .places) w ≡ ref.At number
   pub there : number < length (x .moves)
 
+-- a way that names a move is one of the plan's
+way-into : (ps : List Place) (w : Way) (t : ℕ) → moveNo ps w ≡ ref.At t → Has (waysInto ps (w .place)) w
+way-into ps w t = by (w .back)
+  where
+    p : ℕ
+    p = w .place
+
+    enters : (r : Ref) → r ≡ ref.At t → Has (wayIn p r) (record { place = p; back = false })
+    enters ref.None e = let z : _≡_ {A = ℕ} 0 1 = cc in absurd (omega arith)
+    enters (ref.At s) e = List·Memᴰ·head refl
+
+    returns : (k : LoopMark) → backOf k ≡ ref.At t → Has (wayBack p k) (record { place = p; back = true })
+    returns mark.None e = let z : _≡_ {A = ℕ} 0 1 = cc in absurd (omega arith)
+    returns (mark.Counted l n b) e = List·Memᴰ·head refl
+    returns (mark.Endless l b) e = List·Memᴰ·head refl
+
+    by : (b : Bool) → moveNo ps (record { place = p; back = b }) ≡ ref.At t → Has (waysInto ps p) (record { place = p; back = b })
+    by false e = Memᴰ·append-left (wayBack p (placeAt ps p .mark)) (enters (placeAt ps p .way) e)
+    by true e = Memᴰ·append-right (wayIn p (placeAt ps p .way)) (returns (placeAt ps p .mark) e)
+
+pub way-listed : (x : Items) (w : Way) (t : ℕ) → w .place < length (x .places) → moveNo (x .places) w ≡ ref.At t → Has (waysOf x) w
+way-listed x w t h e = has-gather (waysInto (x .places)) (has-below (length (x .places)) (w .place) .1 h) (way-into (x .places) w t e)
+
 -- a stretch that is gone through once more has a back move
-back-named : (p : ℕ) (k : LoopMark) (r : ℕ) → goesAgain k r ≡ true → (b : ℕ) × (backOf k ≡ ref.At b) × Has (wayBack p k) (record { place = p; back = true })
-back-named p mark.None r e = absurd (false≢true e)
-back-named p (mark.Counted l n b) r e = (b, refl, List·Memᴰ·head refl)
-back-named p (mark.Endless l b) r e = (b, refl, List·Memᴰ·head refl)
+back-named : (k : LoopMark) (r : ℕ) → goesAgain k r ≡ true → (b : ℕ) × (backOf k ≡ ref.At b)
+back-named mark.None r e = absurd (false≢true e)
+back-named (mark.Counted l n b) r e = (b, refl)
+back-named (mark.Endless l b) r e = (b, refl)
 
-module _ (x : Items) (f : Facts x) where
-  -- the ways into place p
-  ways-into : (p : ℕ) → p < length (x .places) → {w : Way} → Has (waysInto (x .places) p) w → Has (waysOf x) w
-  ways-into p h = has-gather (waysInto (x .places)) (has-below (length (x .places)) p .1 h)
-
+module _ (x : Items) (f : Resolved x) where
   way-in : (p : ℕ) → 0 < p → p < length (x .places) → IsWay x (record { place = p; back = false })
   way-in p o h =
-      let t = f .ways p o h in
-      let i : Has (wayIn p (placeAt (x .places) p .way)) (record { place = p; back = false }) = rw (t .1) (List·Memᴰ·head refl) in
-      record {
-        listed = ways-into p h (Memᴰ·append-left (wayBack p (placeAt (x .places) p .mark)) i);
-        number = t .0;
-        named = t .1;
-        there = t .2;
-      }
+      let (t, e, l) = f .ways p o h in
+      record { listed = way-listed x (record { place = p; back = false }) t h e; number = t; named = e; there = l }
 
   way-back : (p r : ℕ) → p < length (x .places) → goesAgain (markAt (x .places) p) r ≡ true → IsWay x (record { place = p; back = true })
   way-back p r h a =
-      let b = back-named p (markAt (x .places) p) r a in
-      record {
-        listed = ways-into p h (Memᴰ·append-right (wayIn p (placeAt (x .places) p .way)) (b .2));
-        number = b .0;
-        named = b .1;
-        there = f .backs p (b .0) h (b .1);
-      }
+      let (b, e) = back-named (markAt (x .places) p) r a in
+      record { listed = way-listed x (record { place = p; back = true }) b h e; number = b; named = e; there = f .backs p b h e }
 
   pub way-there : Closed x → (m : Moment) → IsWay x (wayTaken (x .places) m)
   unfolding spot

@@ -57,7 +57,7 @@ zero-accepts = answers.zero-accepts
 -- a case with a sentence and a closed endless loop is accepted exactly where its named moves connect and make a run of the counter system, every sentence
 -- at every place is marked as it is at every moment of that place, and the last sentence is true at the start
 pub means : (c : Case) → Sound c → Finished (itemsOf c) → (θ : Valuation) → IsAccepted (itemsOf c) θ ↔ Means (itemsOf c) θ
-means c s = second.means (itemsOf c) (facts c s)
+means c s = second.means (itemsOf c) (facts c s .resolved)
 
 -- ---- truth
 

@@ -52,7 +52,7 @@ module _ (x : Items) (f : Facts x) (s l n back : ℕ) (held : s < length (x .pla
 
   -- how the runs lie to each other
   abbrev r : Repeats P
-  r = repeats (x .places) (f .laid) s l n back held is
+  r = repeats (x .places) (f .resolved .laid) s l n back held is
 
   -- ---- counters
 
@@ -284,7 +284,7 @@ module _ (x : Items) (f : Facts x) (s l n back : ℕ) (held : s < length (x .pla
     rights-of : (k : ℕ) → IsAccepted (X k) θ → (i : ℕ) → i < length (x .sentences) → RightIn k i
     rights-of k h i g m =
         subst (λ f. (f i (here (spot (P k) m)) ≡ true) ↔ TrueAt (X k) θ i m) (same-marked x s (suc k))
-        ((all-grid (length (X k .sentences)) (length (X k .places)) .0 (h .0 .1) i (here (spot (P k) m)) g (in-plan (X k) (same-laid (plan k) (f .laid)) (h .0 .0 .0 .0 .0 .1) m)) .same m refl)
+        ((all-grid (length (X k .sentences)) (length (X k .places)) .0 (h .0 .1) i (here (spot (P k) m)) g (in-plan (X k) (same-laid (plan k) (f .resolved .laid)) (h .0 .0 .0 .0 .0 .1) m)) .same m refl)
 
     to-rights : (k : ℕ) → ((i : ℕ) → i < length (x .sentences) → RightIn k i) → All (Right (X k) θ) (marksOf (X k))
     to-rights k h = all-grid (length (X k .sentences)) (length (X k .places)) .1 (λ i p g q. record {
@@ -314,7 +314,7 @@ module _ (x : Items) (f : Facts x) (s l n back : ℕ) (held : s < length (x .pla
 pub between : (x : Items) → Facts x → (s l n back : ℕ) → s < length (x .places) → markAt (x .places) s ≡ mark.Counted l n back → (a b c : ℕ) → 1 ≤ a → a ≤ b → b ≤ c → (θ : Valuation) →
     IsAccepted (withRounds x s a) θ → IsAccepted (withRounds x s c) θ → IsAccepted (withRounds x s b) θ
 between x f s l n back held is (suc a) (suc b) (suc c) h ab bc θ =
-    let r = repeats (x .places) (f .laid) s l n back held is in
+    let r = repeats (x .places) (f .resolved .laid) s l n back held is in
     accepted-between x f s l n back held is θ (is-later (r .round) a b (omega arith) .1) (is-later (r .round) b c (omega arith) .1)
 between x f s l n back held is zero b c h ab bc θ = absurd (omega arith)
 between x f s l n back held is (suc a) zero c h ab bc θ = absurd (omega arith)

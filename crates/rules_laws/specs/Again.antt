@@ -1,18 +1,17 @@
 -- A case that is written is taken in again, record by record, and is the same case, all of it. Assumes nothing.
 use mathlib.Core.Path.{_≡_, refl, _∙_, sym, ap, ap₂, subst, subst₂}
-use mathlib.Core.Logic.{_⊎_, ⊎-elim}
+use mathlib.Core.Logic.{⊎-elim}
 use mathlib.Core.List.{List, [], _∷_, _++_, map, append-nil, append-assoc, map-append}
 use mathlib.Core.Bool.{Bool, true, false, cond}
 use Prim.Native.Nat.{ℕ, zero, suc, _+_, _≤_, _<_}
 use native.Mathlib.Numerals.{add-one}
 use native.Mathlib.Omega.{arith}
 use lib.Dec.{ltb}
-use lib.ListN.{length, getD, take, length-append}
+use lib.ListN.{length, take, length-append}
 use lib.Seq.{take-suc, take-all}
 use borrow.Author.Tests.{lt-ltb, le-ltb, ltb-true}
-use Rattle.laws.specs.All.{All, none, also, gather}
-use Rattle.laws.specs.Members.{has-all, all-both}
-use Rattle.laws.specs.Gathered.{gather-more, gather-same, gather-gather, gather-map}
+use Rattle.laws.specs.All.{gather}
+use Rattle.laws.specs.Gathered.{gather-more}
 use Rattle.record.specs.Layout.{recordOf, cut}
 use Rattle.kinds.specs.declared.Kind.{Kind}
 use Rattle.kinds.specs.declared.Kind.the-variants as kind
@@ -37,20 +36,9 @@ use Rattle.rules_laws.specs.Held.{added-same, added-other, items-with, c
 use Rattle.rules_laws.specs.First.{answers-first}
 use Rattle.rules_laws.specs.Kept.{reach-own, reach-rest, sound-empty, sound-kept}
 use Rattle.rules_laws.specs.Spelled.{spells-file}
-use Rattle.rules_laws.specs.Written.{record-long, record-reads}
-use Rattle.rules_laws.specs.Back.{joined, IsWhole, cut-joined}
+use Rattle.rules_laws.specs.Written.{record-reads}
+use Rattle.rules_laws.specs.Records.{blockOf, cut-file}
 use Rattle.rules_laws.specs.Unrefused.{part, item, bytes, before, is, none-applies}
-
--- ---- lists
-
-all-gather : {A B : Type 0} {P : B → Type 0} (f : A → List B) → ((a : A) → All P (f a)) → (l : List A) → All P (gather f l)
-unfolding gather
-all-gather f h [] = none
-all-gather f h (a ∷ l) = all-both (h a) (all-gather f h l)
-
-all-mapped : {A B : Type 0} {P : B → Type 0} (f : A → B) (d : A) (l : List A) → ((i : ℕ) → i < length l → P (f (getD l i d))) → All P (map f l)
-all-mapped f d [] h = none
-all-mapped f d (a ∷ l) h = also (h 0 (omega arith)) (all-mapped f d l (λ i g. h (suc i) (omega arith)))
 
 -- ---- taking records one after the other
 
@@ -114,7 +102,7 @@ module _ (c : Case) (s : Sound c) where
 
   -- the records of a kind
   abbrev block : Kind → List (List ℕ)
-  block k = map (itemBytes k) (list k)
+  block = blockOf (itemsOf c)
 
   module _ (k : Kind) (i : ℕ) (h : i < countOf (c .count) k) where
     -- with item i those before it are those before the next
@@ -220,18 +208,6 @@ module _ (c : Case) (s : Sound c) where
 
   -- ---- its file
 
-  -- every record is whole
-  all-whole : All IsWhole (gather block allKinds)
-  all-whole = all-gather block (λ k. all-mapped (itemBytes k) (noItem k) (list k) (λ i h. record-long (s .fit k i (omega (arith, counted c s k))))) allKinds
-
-  file-records : fileOf (itemsOf c) ≡ joined (gather block allKinds)
-  unfolding fileOf
-  file-records = sym (gather-gather (λ b. b) block allKinds ∙ gather-same _ _ (has-all allKinds (λ k m. gather-map (λ b. b) (itemBytes k) (list k))))
-
-  cut-file : cut (fileOf (itemsOf c)) ≡ gather block allKinds
-  unfolding cut
-  cut-file = ap cut file-records ∙ cut-joined all-whole (length (joined (gather block allKinds))) (omega arith)
-
   -- taking in the file of the case from the empty case takes every record, and gives the same case, all of it
   pub taken-again : collectedOf emptyCase (fileOf (itemsOf c)) ≡ record { case = c; answer = Taken; taken = itemCount (itemsOf c) }
   taken-again = r ∙ (λ i. record { case = same-case i; answer = Taken; taken = all-taken i })
@@ -240,7 +216,7 @@ module _ (c : Case) (s : Sound c) where
       t = kinds-lead (length allKinds) (omega arith) emptyCase sound-empty empty-holds
 
       r : collectedOf emptyCase (fileOf (itemsOf c)) ≡ record { case = t .case; answer = Taken; taken = 0 + length (gather block allKinds) }
-      r = collected-is (fileOf (itemsOf c)) ∙ ap (collectedFrom emptyCase 0) (cut-file ∙ sym (append-nil (gather block allKinds))) ∙ t .same 0 [] ∙ collected-none (t .case) _
+      r = collected-is (fileOf (itemsOf c)) ∙ ap (collectedFrom emptyCase 0) (cut-file (itemsOf c) (λ k i h. s .fit k i (omega (arith, counted c s k))) ∙ sym (append-nil (gather block allKinds))) ∙ t .same 0 [] ∙ collected-none (t .case) _
 
       same-case : t .case ≡ c
       same-case = t .sound .same ∙ ap caseOf (t .holds ∙ all-hold) ∙ sym (s .same)

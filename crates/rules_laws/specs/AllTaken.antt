@@ -35,7 +35,7 @@ use Rattle.rules_laws.specs.First.{answers-first}
 spelled-list : (k : Kind) (rs : List (List ℕ)) → listOf k (spelledBy rs) ≡ map (itemOf k) (rowsOf k rs)
 spelled-list k rs = list-by (λ j. map (itemOf j) (rowsOf j rs)) k
 
-rows-append : (k : Kind) (rs qs : List (List ℕ)) → rowsOf k (rs ++ qs) ≡ rowsOf k rs ++ rowsOf k qs
+pub rows-append : (k : Kind) (rs qs : List (List ℕ)) → rowsOf k (rs ++ qs) ≡ rowsOf k rs ++ rowsOf k qs
 unfolding rowsOf
 rows-append k [] qs = refl
 rows-append k (b ∷ rs) qs =

@@ -14,6 +14,7 @@ pub mod AllTaken
 pub mod Written
 pub mod Back
 pub mod Unrefused
+pub mod Records
 pub mod Again
 pub mod Theorems
 pub mod KeptDrifts

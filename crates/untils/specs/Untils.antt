@@ -89,7 +89,7 @@ module _ {x : Items} {l : ℕ → Label} {s g : ℕ → ℤ} {i : ℕ} (t : Turn
   p = i - 1
 
   few : length ps ≤ roomOf kind.Place
-  few = omega (arith, t .facts .room (length ps - 1) (omega arith), t .facts .laid .long (length ps - 1))
+  few = omega (arith, t .facts .room (length ps - 1) (omega arith), t .facts .resolved .laid .long (length ps - 1))
 
   tame : Tame s g
   tame = steps-tame (t .light) (t .are)

@@ -108,7 +108,7 @@ module _ (x : Items) (f : Facts x) (c : Closed x) (θ : Valuation) (i : ℕ) (ri
 
   -- there is one
   there : (m : Moment) × AtPlace m
-  there = let v = visit x (f .laid) c p h 0 (in-zero (loopOf ps p)) in (v .0, v .1)
+  there = let v = visit x (f .resolved .laid) c p h 0 (in-zero (loopOf ps p)) in (v .0, v .1)
 
   -- the marks of the sentences below i tell
   told : (j : ℕ) → j < i → (m : Moment) → (marked x j (here (spot ps m)) ≡ true) ↔ SaysBelow x θ i j m
@@ -131,13 +131,13 @@ module _ (x : Items) (f : Facts x) (c : Closed x) (θ : Valuation) (i : ℕ) (ri
   form-tells (form.Next a) r =
       cond-by (λ t. TellsHow t AtPlace (λ m. SaysBelow x θ i a (suc m))) (isLast ps p)
       (λ l.
-      next-tells (λ m. spot ps m .round) (loopOf ps p) (marked x a) (firstOf ps p) (suc p) (λ r v. visit x (f .laid) c p h r v)
-      (λ m e. rw e at (round-in ps (f .laid) m)) (λ m e. rw l at (on m e)))
+      next-tells (λ m. spot ps m .round) (loopOf ps p) (marked x a) (firstOf ps p) (suc p) (λ r v. visit x (f .resolved .laid) c p h r v)
+      (λ m e. rw e at (round-in ps (f .resolved .laid) m)) (λ m e. rw l at (on m e)))
       (λ l. flag-tells (marked x a (suc p)) there (λ m e. rw l at (on m e)))
     where
       on : (m : Moment) → AtPlace m →
           (marked x a (cond (isLast ps p) (cond (goesAgain (loopOf ps p) (spot ps m .round)) (firstOf ps p) (suc p)) (suc p)) ≡ true)
           ↔ SaysBelow x θ i a (suc m)
-      on m e = rw (next-place ps (f .laid) m, e) at (told a r (suc m))
+      on m e = rw (next-place ps (f .resolved .laid) m, e) at (told a r (suc m))
   form-tells (form.Until a b z t u) r =
-      tells-same (until-tells x (f .laid) c (labelOf (marked x) a b t u) z p h) (λ m. Iff·symm (until-labels x θ i a b z t u r right m))
+      tells-same (until-tells x (f .resolved .laid) c (labelOf (marked x) a b t u) z p h) (λ m. Iff·symm (until-labels x θ i a b z t u r right m))

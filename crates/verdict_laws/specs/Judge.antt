@@ -150,7 +150,7 @@ module _ (x : Items) where
             | yes w ↦ b j w m
             | no w ↦
                 let e : i ≡ j = omega arith in
-                rw e at (all-row i (length (x .places)) .0 a p (in-plan x (f .laid) c m) .same m refl)
+                rw e at (all-row i (length (x .places)) .0 a p (in-plan x (f .resolved .laid) c m) .same m refl)
           ]
 
     -- the n sentences from i on

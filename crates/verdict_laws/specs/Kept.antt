@@ -118,7 +118,7 @@ module _ (x : Items) (f : Facts x) (c : Closed x) (θ : Valuation) where
   sum-at g m h e =
       let s = spot (x .places) m in
       rw (h, e) at (sum-line (g .coefficients .at) (λ j. base x θ j (here s)) (λ j. drift x j (firstOf (x .places) (here s))) (countersAt x θ m) (s .round)
-      (λ j. rw (← first-is (x .places) (f .laid) m) (kept x (f .laid) θ m j)))
+      (λ j. rw (← first-is (x .places) (f .resolved .laid) m) (kept x (f .resolved .laid) θ m j)))
 
   pub guard-tells : (g : Guard) (p : ℕ) → p < length (x .places) → TellsHow (guardThrough x θ g p) (λ m. here (spot (x .places) m) ≡ p) (λ m. Meets g (countersAt x θ m))
   guard-tells g p h =
@@ -126,16 +126,16 @@ module _ (x : Items) (f : Facts x) (c : Closed x) (θ : Valuation) where
       let d = roundSum x g p in
       let R = roundsOf (loopOf (x .places) p) in
       record {
-        always = λ e m w. rw (sum-at g m w refl) (through-always a d (g .bound) R e (spot (x .places) m .round) (rw w at (round-in (x .places) (f .laid) m)));
+        always = λ e m w. rw (sum-at g m w refl) (through-always a d (g .bound) R e (spot (x .places) m .round) (rw w at (round-in (x .places) (f .resolved .laid) m)));
         never = λ e m w k.
-            through-never a d (g .bound) R e (spot (x .places) m .round) (rw w at (round-in (x .places) (f .laid) m)) (rw (sum-at g m w refl) at k);
+            through-never a d (g .bound) R e (spot (x .places) m .round) (rw w at (round-in (x .places) (f .resolved .laid) m)) (rw (sum-at g m w refl) at k);
         unmet = λ e.
             let (r, i, u) = through-unmet a d (g .bound) R e in
-            let (m, w, v) = visit x (f .laid) c p h r i in
+            let (m, w, v) = visit x (f .resolved .laid) c p h r i in
             (m, w, λ k. u (rw (sum-at g m w v) at k));
         met = λ e.
             let (r, i, u) = through-met a d (g .bound) R e 0 (in-zero (loopOf (x .places) p)) in
-            let (m, w, v) = visit x (f .laid) c p h r i in
+            let (m, w, v) = visit x (f .resolved .laid) c p h r i in
             (m, w, rw (sum-at g m w v) u);
       }
 
@@ -159,7 +159,7 @@ module _ (x : Items) (f : Facts x) (c : Closed x) (θ : Valuation) where
     pub test-always : testThrough x θ t ≡ Always → Passes x θ t
     test-always e = record {
       met = λ m w.
-          let (r, i, v) = taken-in (x .places) (f .laid) m in
+          let (r, i, v) = taken-in (x .places) (f .resolved .laid) m in
           rw (sum-after m r w (v ∙ ap (λ y. r + shift y) w))
           (through-always start (roundSum x g p) (g .bound) (roundsBy (x .places) (t .way)) e r (subst (λ y. In (roundsBy (x .places) y) r) w i));
     }

@@ -240,10 +240,10 @@ module _ (x : Items) (f : Facts x) (closed : Closed x) where
       let l = has-below (length ps) p .0 b in
       ⊎-elim
       (λ i. let (e, n) = in-way p (placeAt ps p .way) i in rw e (into p l n))
-      (λ i. let (e, n) = back-way p (placeAt ps p .mark) i in rw e (takes-back ps (f .laid) p l n))
+      (λ i. let (e, n) = back-way p (placeAt ps p .mark) i in rw e (takes-back ps (f .resolved .laid) p l n))
       (List·Memᴰ·append-cases (wayIn p (placeAt ps p .way)) k)
     where
       into : (p : ℕ) → p < length (x .places) → (placeAt (x .places) p .way ≡ ref.None → ⊥) → (r : ℕ) → In (roundsBy (x .places) (moveTo p)) r →
           Takes (x .places) (moveTo p) r
       into zero l n = absurd (n (f .start))
-      into (suc p) l n = takes-in (x .places) (f .laid) p l
+      into (suc p) l n = takes-in (x .places) (f .resolved .laid) p l

@@ -121,7 +121,7 @@ one-below (ref.At v) (ref.At u) true (also f (also g h)) z l = omega arith
 guards-held : {x : Items} → Facts x → (r : Ref) → ((t : ℕ) → r ≡ ref.At t → t < length (x .moves)) → All (λ g. g < length (x .guards)) (guardsOf (moveAt (x .moves) r))
 unfolding moveAt
 guards-held f ref.None h = none
-guards-held f (ref.At t) h = f .guards t (h t refl)
+guards-held f (ref.At t) h = f .resolved .guards t (h t refl)
 
 module _ {c : Case} (s : Sound c) (k : ℕ) (h : k < 4 * c .count .places) where
   -- its items

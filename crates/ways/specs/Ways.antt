@@ -83,7 +83,7 @@ way-below f zero t h e =
     let z : _≡_ {A = ℕ} 0 1 = cc in
     absurd (omega arith)
 way-below f (suc p) t h e =
-    let w = f .ways (suc p) (omega arith) h in
+    let w = f .resolved .ways (suc p) (omega arith) h in
     let a = w .1 in
     let q : w .0 ≡ t = cc in
     omega (arith, w .2)
@@ -108,20 +108,20 @@ module _ {c : Case} (s : Sound c) (k : ℕ) where
     inside = omega (arith, counted c s kind.Place)
 
     pub way-room : (1 ≤ stretch (place .mark)) × (k / 2 + stretch (place .mark) ≤ roomOf kind.Place)
-    way-room = rw (at-places s (k / 2)) (facts c s .laid .long (k / 2), facts c s .room (k / 2) inside)
+    way-room = rw (at-places s (k / 2)) (facts c s .resolved .laid .long (k / 2), facts c s .room (k / 2) inside)
 
     pub before-below : placeBefore (x .places) (wayNo k) < roomOf kind.Place
     before-below =
         let f = facts c s in
         let r = f .room (k / 2) inside in
-        cond-by (λ q. q < roomOf kind.Place) (wayNo k .back) (λ e. omega (arith, f .laid .long (k / 2))) (λ e. omega arith)
+        cond-by (λ q. q < roomOf kind.Place) (wayNo k .back) (λ e. omega (arith, f .resolved .laid .long (k / 2))) (λ e. omega arith)
 
     -- its move is one of the moves
     pub move-held : (t : ℕ) → moveNo (x .places) (wayNo k) ≡ ref.At t → t < length (x .moves)
     move-held = by (wayNo k .back)
       where
         by : (b : Bool) (t : ℕ) → moveNo (x .places) (record { place = k / 2; back = b }) ≡ ref.At t → t < length (x .moves)
-        by true t e = facts c s .backs (k / 2) t inside e
+        by true t e = facts c s .resolved .backs (k / 2) t inside e
         by false t e = way-below (facts c s) (k / 2) t inside e
 
     pub move-below : refNumber (moveNo (x .places) (wayNo k)) < roomOf kind.Move

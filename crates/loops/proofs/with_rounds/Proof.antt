@@ -8,7 +8,8 @@ use Rattle.kinds.specs.declared.Kind.the-variants as kind
 use Rattle.items.specs.Lists.{roomOf, noItem, withPlaces}
 use Rattle.collector.specs.Cases.{caseBy, arraysOf}
 use Rattle.rules_laws.specs.Held.{counted}
-use Rattle.loops_laws.specs.Held.{withMark, case-rounds}
+use Rattle.places.specs.OneField.{withMark}
+use Rattle.loops_laws.specs.Held.{case-rounds}
 use Rattle.loops.proofs.with_rounds.Statement.{statement}
 use Rattle.loops.proofs.with_rounds.Tie as tie
 
