@@ -75,9 +75,9 @@ ALSO_NOTATION = [
 ]
 
 
-def case(turn, data):
+def case(turn, data, *words):
     """What tools/case writes, what it complains of, and its status."""
-    done = subprocess.run([sys.executable, TOOL, turn], input=data, capture_output=True)
+    done = subprocess.run([sys.executable, TOOL, turn, *words], input=data, capture_output=True)
     return done.stdout, done.stderr.decode(), done.returncode
 
 

@@ -3,9 +3,12 @@
 //! unroll fill COUNT SEED: random case files whose marks are filled in by both; of small ones all marks are tried. Mistakes are planted there too.
 //! unroll rounds COUNT SEED: plans by hand and random case files, so many of them accepted, in which the rounds of loops are found and set by both.
 //! The run is unrolled for all rounds of a loop up to 40, and for some loops up to a million. Mistakes are planted there too.
+//! unroll cuts COUNT SEED: plans by hand and random cases, whose counted loops are cut in two, so many times, and some halves again: each is
+//! accepted exactly where the case is. Mistakes are planted there too.
 //! unroll stored: the stored cases, as tests/cases.py prints them, from standard input, answered, written back, filled, and with rounds found and
 //! set by both.
 mod checker;
+mod cuts;
 mod filled;
 mod filler;
 #[path = "../library.rs"]
@@ -24,10 +27,12 @@ mod rooms;
 mod shapes;
 mod spanned;
 mod spans;
+mod wholes;
 mod writer;
 mod written;
 
 use checker::check;
+use cuts::Cuttings;
 use filled::Fillings;
 use library::{Answer, Stored, RESULTS};
 use mistakes::{Mistake, MISTAKES};
@@ -39,6 +44,7 @@ use shapes::{endless_guards, shapes, GUARD_CASES, SHAPES};
 use spanned::Spannings;
 use std::collections::BTreeMap;
 use std::process::exit;
+use wholes::case_to_cut;
 use written::Writings;
 
 const TWELVE: &[u8] = include_bytes!("../../crates/plancheck/stdin");
@@ -48,6 +54,8 @@ const STORED_STEPS: u64 = 10_000_000;
 const FILLED_STEPS: u64 = 2_000_000;
 /// And for one judgement with other rounds in a loop, of a random case and of a stored one.
 const SPANNED_STEPS: u64 = 50_000;
+/// And for one judgement of a random case with a cut.
+const CUT_STEPS: u64 = 50_000;
 /// A mistake is tried until so many cases have found it.
 const FOUND: usize = 3;
 /// For so many cases, a file of any numbers is written back too.
@@ -217,6 +225,22 @@ fn spannings(count: usize, seed: u64) -> bool {
     spannings.enough()
 }
 
+/// Plans by hand, and random cases, with so many cuts of their loops.
+fn cuttings(count: usize, seed: u64) -> bool {
+    let mut r = Random(seed);
+    let mut cuttings = Cuttings::new(!seed);
+    let mut right = cuttings.by_hand();
+    while right && cuttings.cuts < count {
+        right = case_to_cut(&mut r).is_none_or(|case| cuttings.add(&case, CUT_STEPS));
+    }
+    if !right {
+        println!("unroll: after {} cuts of seed {seed}, a case or its cut isn't answered rightly", cuttings.cuts);
+        return false;
+    }
+    cuttings.show();
+    cuttings.enough()
+}
+
 /// The stored cases, answered, written back, filled, and with rounds found and set.
 fn stored() -> bool {
     let cases = library::stored();
@@ -242,8 +266,9 @@ fn main() {
         ["cases", count, seed] => cases(count.parse().expect("a count"), seed.parse().expect("a seed")),
         ["fill", count, seed] => fillings(count.parse().expect("a count"), seed.parse().expect("a seed")),
         ["rounds", count, seed] => spannings(count.parse().expect("a count"), seed.parse().expect("a seed")),
+        ["cuts", count, seed] => cuttings(count.parse().expect("a count"), seed.parse().expect("a seed")),
         ["stored"] => stored(),
-        _ => panic!("unroll cases, fill or rounds, with COUNT and SEED, or unroll stored"),
+        _ => panic!("unroll cases, fill, rounds or cuts, with COUNT and SEED, or unroll stored"),
     };
     if !right {
         exit(1);

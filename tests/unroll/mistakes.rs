@@ -1,6 +1,6 @@
 //! The mistakes that can be planted in the separate checker: those that are easily made in a checker with formulas for loops, and others.
 //! What is a wrong formula there is put here as the same wrong result of the unrolling. Then those that can be planted in the separate speller,
-//! in the separate filler, and in the separate finding and setting of rounds.
+//! in the separate filler, in the separate finding and setting of rounds, and in the separate cutter of loops.
 
 /// An enum of mistakes, and the list of them with their words.
 macro_rules! mistakes {
@@ -196,4 +196,28 @@ mistakes! { Blunder, BLUNDERS;
     FileForgotten: "set: the line without the file",
     FileGiven: "set: the file given behind a refusal",
     BytesUncounted: "set: the count of records told, not of bytes",
+}
+
+mistakes! { Miscut, MISCUTS;
+    WayInKept: "the second half's way in is the loop's own",
+    WayInBehind: "the second half's way in is that of the place behind the loop",
+    FirstByBack: "the first half's way in is the back move too",
+    BehindByBack: "the way into the place behind is the back move too",
+    BackByWayIn: "the second half's back move is the loop's way in",
+    FirstBackByWayIn: "the first half's back move is the loop's way in",
+    FirstWhole: "the first half has all the rounds",
+    SecondWhole: "the second half has all the rounds",
+    SecondLikeFirst: "the second half has as many rounds as the first",
+    FirstFewer: "the first half has one round too few",
+    SecondFewer: "the second half has one round too few",
+    FirstMore: "the first half has one round too many",
+    SecondMore: "the second half has one round too many",
+    FirstUnlooped: "the first half has no loop mark",
+    SecondUnlooped: "the second half has no loop mark",
+    LastLeftOut: "the second half without its last place",
+    FirstLastLeftOut: "the first half without its last place",
+    MarksEmpty: "the second half without marks",
+    MarksOfFirst: "the marks of the loop's first place at all places of the second half",
+    MarksOfBehind: "the marks of the place behind at all places of the second half",
+    SecondLost: "no second half",
 }
