@@ -20,7 +20,7 @@ use Rattle.meaning.specs.Cut.{halves}
 use Rattle.meaning_laws.specs.Facts.{Resolved}
 use Rattle.meaning_laws.specs.Plans.{mark-keeps}
 use Rattle.meaning_laws.specs.SameRun.{SameWay, same-back, HasLike, connected-by, accepted-alike}
-use Rattle.cut.specs.Places.{copy-loop, copy-stretch, Cuts, has-one, more-places, second-place, high-same, by-side, by-place, low-copy, high-copy, low-way, ends-by, halves-laid, halves-closed}
+use Rattle.cut.specs.Places.{copy-stretch, copy-back, Cuts, has-one, more-places, second-place, high-same, by-side, by-place, low-copy, high-copy, low-way, ends-by, halves-laid, halves-closed}
 use Rattle.cut.specs.Runs.{halves-show}
 
 -- by the move into place q, or by the back move of the loop that it begins
@@ -32,26 +32,21 @@ module _ {ps : List Place} {p l b m k : ℕ} (c : Cuts ps p l b m k) where
   abbrev qs : List Place
   qs = halves ps p l b m k
 
+  -- the loop has a place
   o : 1 ≤ l
   o = has-one c
 
   -- ---- ways that are alike
 
-  low-state : (q : ℕ) → q < p + l → placeAt qs q .state ≡ placeAt ps q .state
-  low-state q h = low-copy c q h .state
-
-  high-state : (i j : ℕ) → j ≡ i + l → p ≤ i → placeAt qs j .state ≡ placeAt ps i .state
-  high-state i j e h = ap (λ z. placeAt qs z .state) e ∙ high-copy c i h .state
-
   -- up to the loop's end
   low-like : (v : Bool) (q : ℕ) → q < p + l → SameWay ps qs (way q v) (way q v)
-  low-like false q h = record { number = low-way c q h; from = low-state (q - 1) (omega arith); to = low-state q h }
+  low-like false q h = record { number = low-way c q h; from = low-copy c (q - 1) (omega arith) .state; to = low-copy c q h .state }
   low-like true q h =
       let e : q + stretch (markAt qs q) - 1 ≡ q + stretch (markAt ps q) - 1 = omega (arith, copy-stretch (low-copy c q h)) in
       record {
-        number = copy-loop (low-copy c q h) backOf (λ i r s t. refl);
-        from = ap (λ z. placeAt qs z .state) e ∙ low-state (q + stretch (markAt ps q) - 1) (omega (arith, ends-by c q h .0));
-        to = low-state q h;
+        number = copy-back (low-copy c q h);
+        from = ap (λ z. placeAt qs z .state) e ∙ low-copy c (q + stretch (markAt ps q) - 1) (omega (arith, ends-by c q h .0)) .state;
+        to = low-copy c q h .state;
       }
 
   -- after the loop's first place, l places later
@@ -59,19 +54,20 @@ module _ {ps : List Place} {p l b m k : ℕ} (c : Cuts ps p l b m k) where
   high-in i h =
       record {
         number = ap (λ (r : Place). r .way) (high-same c i h);
-        from = high-state (i - 1) (i + l - 1) (omega arith) (omega arith);
-        to = high-state i (i + l) refl (omega arith);
+        from = high-copy c (i - 1) (i + l - 1) (omega arith) (omega arith) .state;
+        to = high-copy c i (i + l) refl (omega arith) .state;
       }
 
   high-back : (i : ℕ) → p ≤ i → SameWay ps qs (way i true) (way (i + l) true)
   high-back i h =
       let n = c .laid .long i in
       record {
-        number = copy-loop (high-copy c i h) backOf (λ i r s t. refl);
+        number = copy-back (high-copy c i (i + l) refl h);
         from =
-            high-state (i + stretch (markAt ps i) - 1) (i + l + stretch (markAt qs (i + l)) - 1)
-            (omega (arith, copy-stretch (high-copy c i h))) (omega arith);
-        to = high-state i (i + l) refl h;
+            high-copy c (i + stretch (markAt ps i) - 1) (i + l + stretch (markAt qs (i + l)) - 1)
+            (omega (arith, copy-stretch (high-copy c i (i + l) refl h))) (omega arith)
+            .state;
+        to = high-copy c i (i + l) refl h .state;
       }
 
   -- the way into the second half is the back move
@@ -80,8 +76,8 @@ module _ {ps : List Place} {p l b m k : ℕ} (c : Cuts ps p l b m k) where
       let e : p + l - 1 ≡ p + stretch (markAt ps p) - 1 = omega (arith, ap stretch (c .is)) in
       record {
         number = ap (λ (q : Place). q .way) (second-place c) ∙ sym (ap backOf (c .is));
-        from = low-state (p + l - 1) (omega (arith, o)) ∙ ap (λ z. placeAt ps z .state) e;
-        to = high-state p (p + l) refl (omega arith);
+        from = low-copy c (p + l - 1) (omega (arith, o)) .state ∙ ap (λ z. placeAt ps z .state) e;
+        to = high-copy c p (p + l) refl (omega arith) .state;
       }
 
   -- each way of the plan with the loop cut has its like in the plan

@@ -16,7 +16,7 @@ use Rattle.items.specs.declared.Ref.the-variants as ref
 use Rattle.items.specs.declared.Place.{Place}
 use Rattle.items.specs.Lists.{Items, noItem, withPlaces}
 use Rattle.rules.specs.Rules.{markAt, lengthOf, isEndless, endAt, Closed}
-use Rattle.meaning.specs.Run.{stretch, placeAt}
+use Rattle.meaning.specs.Run.{stretch, backOf, placeAt}
 use Rattle.meaning.specs.Rounds.{markWith, placeWith, placesWith}
 use Rattle.meaning.specs.Cut.{placeBy, enteredBy, halves}
 use Rattle.meaning_laws.specs.Facts.{Laid}
@@ -35,11 +35,14 @@ copied w n q = record { state = refl; marks = refl; loop = mark-keeps (markWith 
 
 module _ {q r : Place} (e : Copy q r) where
   -- what of a loop mark doesn't look at its rounds
-  pub copy-loop : {B : Type 0} (f : LoopMark → B) → ((l n m b : ℕ) → f (mark.Counted l n b) ≡ f (mark.Counted l m b)) → f (q .mark) ≡ f (r .mark)
+  copy-loop : {B : Type 0} (f : LoopMark → B) → ((l n m b : ℕ) → f (mark.Counted l n b) ≡ f (mark.Counted l m b)) → f (q .mark) ≡ f (r .mark)
   copy-loop = loop-same {j = q .mark} {k = r .mark} (e .loop)
 
   pub copy-stretch : stretch (q .mark) ≡ stretch (r .mark)
   copy-stretch = copy-loop stretch (λ l n m b. refl)
+
+  pub copy-back : backOf (q .mark) ≡ backOf (r .mark)
+  copy-back = copy-loop backOf (λ l n m b. refl)
 
   copy-endless : isEndless (q .mark) ≡ isEndless (r .mark)
   copy-endless = copy-loop isEndless (λ l n m b. refl)
@@ -155,19 +158,24 @@ module _ {ps : List Place} {p l b m k : ℕ} (c : Cuts ps p l b m k) where
         | no e ↦ subst (λ r. Copy r (placeAt ps q)) (sym (low-same q h e)) (record { state = refl; marks = refl; loop = refl })
       ]
 
-  pub high-copy : (i : ℕ) → p ≤ i → Copy (placeAt (halves ps p l b m k) (i + l)) (placeAt ps i)
-  high-copy i h =
-      elim (decLt p i) [
+  pub high-copy : (i j : ℕ) → j ≡ i + l → p ≤ i → Copy (placeAt (halves ps p l b m k) j) (placeAt ps i)
+  high-copy i j d h =
+      subst (λ z. Copy (placeAt qs z) (placeAt ps i)) (sym d)
+      (elim (decLt p i) [
         | yes g ↦ subst (λ r. Copy r (placeAt ps i)) (sym (high-same i g)) (record { state = refl; marks = refl; loop = refl })
         | no g ↦
             let e : p ≡ i = omega arith in
             subst (λ z. Copy (placeAt qs (z + l)) (placeAt ps z)) e (subst (λ r. Copy r (placeAt ps p)) (sym second-place) (copied (ref.At b) k (placeAt ps p)))
-      ]
+      ])
 
   pub low-way : (q : ℕ) → q < p + l → placeAt (halves ps p l b m k) q .way ≡ placeAt ps q .way
   low-way q h = ap (λ (r : Place). r .way) (low q h) ∙ other-rounds ps p m .ways q
 
   -- ---- where the loops lie
+
+  -- a stretch that begins before the loop ends before it
+  pub ends-before : (q : ℕ) → q < p → q + stretch (markAt ps q) ≤ p
+  ends-before q h = c .laid .apart q p h (omega (arith, has-one, c .whole)) (λ e. let z : _≡_ {A = ℕ} 0 1 = cc (c .is) in omega arith)
 
   -- a stretch that begins before the loop's end ends there or before, and isn't endless
   pub ends-by : (q : ℕ) → q < p + l → (q + stretch (markAt ps q) ≤ p + l) × (isEndless (markAt ps q) ≡ true → ⊥)
@@ -177,9 +185,7 @@ module _ {ps : List Place} {p l b m k : ℕ} (c : Cuts ps p l b m k) where
       Fine q a = (q + stretch a ≤ p + l) × (isEndless a ≡ true → ⊥)
 
       before : q < p → Fine q (markAt ps q)
-      before a =
-          let v = c .laid .apart q p a (omega (arith, has-one, c .whole)) (λ e. let z : _≡_ {A = ℕ} 0 1 = cc (c .is) in omega arith) in
-          (omega arith, λ e. omega (arith, c .laid .last q e, has-one, c .whole))
+      before a = let v = ends-before q a in (omega arith, λ e. omega (arith, c .laid .last q e, has-one, c .whole))
 
       this : q ≡ p → Fine q (markAt ps q)
       this e = subst (λ z. Fine z (markAt ps z)) (sym e) (subst (Fine p) (sym (c .is)) (omega arith, false≢true))
@@ -198,7 +204,7 @@ module _ {ps : List Place} {p l b m k : ℕ} (c : Cuts ps p l b m k) where
       long : (q : ℕ) → 1 ≤ stretch (markAt qs q)
       long =
           by-side (λ q. 1 ≤ stretch (markAt qs q))
-          (λ q h. omega (arith, c .laid .long q, copy-stretch (low-copy q h))) (λ i h. omega (arith, c .laid .long i, copy-stretch (high-copy i h)))
+          (λ q h. omega (arith, c .laid .long q, copy-stretch (low-copy q h))) (λ i h. omega (arith, c .laid .long i, copy-stretch (high-copy i (i + l) refl h)))
 
       -- stretch u ends before loop v
       Apart : ℕ → ℕ → Type 0
@@ -213,13 +219,13 @@ module _ {ps : List Place} {p l b m k : ℕ} (c : Cuts ps p l b m k) where
           by-side (λ u. Apart u (j + l))
           (λ u t g h o. omega (arith, copy-stretch (low-copy u t), ends-by u t .0))
           (λ i t g h o.
-          omega (arith, copy-stretch (high-copy i t), c .laid .apart i j (omega arith) (omega (arith, more-places)) (λ e. o (copy-none (high-copy j a) e)))) u)
+          omega (arith, copy-stretch (high-copy i (i + l) refl t), c .laid .apart i j (omega arith) (omega (arith, more-places)) (λ e. o (copy-none (high-copy j (j + l) refl a) e)))) u)
 
       last : (u : ℕ) → isEndless (markAt qs u) ≡ true → length qs ≤ u + stretch (markAt qs u)
       last =
           by-side (λ u. isEndless (markAt qs u) ≡ true → length qs ≤ u + stretch (markAt qs u))
           (λ u a e. absurd (ends-by u a .1 (sym (copy-endless (low-copy u a)) ∙ e)))
-          (λ i a e. omega (arith, c .laid .last i (sym (copy-endless (high-copy i a)) ∙ e), copy-stretch (high-copy i a), more-places))
+          (λ i a e. omega (arith, c .laid .last i (sym (copy-endless (high-copy i (i + l) refl a)) ∙ e), copy-stretch (high-copy i (i + l) refl a), more-places))
 
   -- the endless loop has closed in the one exactly where it has in the other
   pub halves-closed : (x : Items) → Closed (withPlaces x ps) ↔ Closed (withPlaces x (halves ps p l b m k))
@@ -227,17 +233,17 @@ module _ {ps : List Place} {p l b m k : ℕ} (c : Cuts ps p l b m k) where
     where
       -- the end of the endless loop
       ends : (i : ℕ) → p ≤ i → endAt qs (i + l) ≡ endAt ps i + l
-      ends i h = omega (arith, copy-loop (high-copy i h) lengthOf (λ l n m b. refl))
+      ends i h = omega (arith, copy-loop (high-copy i (i + l) refl h) lengthOf (λ l n m b. refl))
 
       there : Closed (withPlaces x ps) → Closed (withPlaces x qs)
       there v =
           let f = v .first in
           let h : p + l ≤ f = elim (decLt f (p + l)) [ yes a ↦ absurd (ends-by f a .1 (v .endless)) | no a ↦ omega arith ] in
-          record { first = f + l; endless = copy-endless (high-copy f (omega arith)) ∙ v .endless; whole = omega (arith, v .whole, ends f (omega arith), more-places) }
+          record { first = f + l; endless = copy-endless (high-copy f (f + l) refl (omega arith)) ∙ v .endless; whole = omega (arith, v .whole, ends f (omega arith), more-places) }
 
       back : Closed (withPlaces x qs) → Closed (withPlaces x ps)
       back v =
           by-side (λ f. isEndless (markAt qs f) ≡ true → endAt qs f ≤ length qs → Closed (withPlaces x ps))
           (λ f a e w. absurd (ends-by f a .1 (sym (copy-endless (low-copy f a)) ∙ e)))
-          (λ i a e w. record { first = i; endless = sym (copy-endless (high-copy i a)) ∙ e; whole = omega (arith, ends i a, more-places) })
+          (λ i a e w. record { first = i; endless = sym (copy-endless (high-copy i (i + l) refl a)) ∙ e; whole = omega (arith, ends i a, more-places) })
           (v .first) (v .endless) (v .whole)

@@ -1,5 +1,5 @@
 -- The run of a plan with a loop cut in two goes, moment by moment, by the same moves through the same states and marks. Assumes nothing.
-use mathlib.Core.Path.{_≡_, refl, sym, _∙_, ap, subst}
+use mathlib.Core.Path.{_≡_, sym, _∙_, ap, subst}
 use mathlib.Core.List.{List}
 use mathlib.Core.Bool.{true, false}
 use Prim.Native.Nat.{ℕ, _+_, _≤_, _<_}
@@ -16,7 +16,7 @@ use Rattle.meaning.specs.Cut.{halves}
 use Rattle.meaning_laws.specs.Walk.{spotAt, next-on, next-back, next-out}
 use Rattle.meaning_laws.specs.Stays.{next-by}
 use Rattle.meaning_laws.specs.SameRun.{ShowsSame, Together, shows-by}
-use Rattle.cut.specs.Places.{Copy, copy-loop, Cuts, has-one, first-place, second-place, low-same, high-same, low-copy, high-copy, low-way, ends-by}
+use Rattle.cut.specs.Places.{Copy, copy-back, Cuts, has-one, first-place, second-place, low-same, high-same, low-copy, high-copy, low-way, ends-before, ends-by}
 
 -- where the run of the plan is, and where that of the plan with the loop cut is: before the loop; in one of its first m rounds; in a later one; or after the loop
 data Alike (ps : List Place) (p l m k : ℕ) : Spot → Spot → Type 0 where
@@ -34,6 +34,7 @@ module _ {ps : List Place} {p l b m k : ℕ} (c : Cuts ps p l b m k) where
   abbrev qs : List Place
   qs = halves ps p l b m k
 
+  -- where the two runs are to one another
   abbrev Same : Spot → Spot → Type 0
   Same = Alike ps p l m k
 
@@ -41,6 +42,7 @@ module _ {ps : List Place} {p l b m k : ℕ} (c : Cuts ps p l b m k) where
   abbrev Both : Step → Step → Type 0
   Both = Together ps qs Same
 
+  -- the loop has a place
   o : 1 ≤ l
   o = has-one c
 
@@ -50,10 +52,10 @@ module _ {ps : List Place} {p l b m k : ℕ} (c : Cuts ps p l b m k) where
   high-way i j e h = ap (λ z. placeAt qs z .way) e ∙ ap (λ (q : Place). q .way) (high-same c i h)
 
   low-back : (q : ℕ) → q < p + l → backOf (markAt qs q) ≡ backOf (markAt ps q)
-  low-back q h = copy-loop (low-copy c q h) backOf (λ i r s t. refl)
+  low-back q h = copy-back (low-copy c q h)
 
   high-back : (i j : ℕ) → j ≡ i + l → p ≤ i → backOf (markAt qs j) ≡ backOf (markAt ps i)
-  high-back i j e h = ap (λ z. backOf (markAt qs z)) e ∙ copy-loop (high-copy c i h) backOf (λ i r s t. refl)
+  high-back i j e h = copy-back (high-copy c i j e h)
 
   -- out of a stretch whose mark is known
   out : (q s r : ℕ) (a : LoopMark) → markAt qs q ≡ a → next qs (spotAt q s r) ≡ onTo (q + stretch (markAt qs q)) → next qs (spotAt q s r) ≡ onTo (q + stretch a)
@@ -76,7 +78,7 @@ module _ {ps : List Place} {p l b m k : ℕ} (c : Cuts ps p l b m k) where
       same = ap (λ (z : Place). z .mark) (low-same c q (omega arith) (λ e. omega arith))
 
       ends : q + stretch L ≤ p
-      ends = c .laid .apart q p a (omega (arith, o, c .whole)) (λ e. let z : _≡_ {A = ℕ} 0 1 = cc (c .is) in omega arith)
+      ends = ends-before c q a
 
       there : Same (spotAt (q + stretch L) 0 0) (spotAt (q + stretch L) 0 0)
       there = elim (decLt (q + stretch L) p) [
@@ -167,15 +169,12 @@ module _ {ps : List Place} {p l b m k : ℕ} (c : Cuts ps p l b m k) where
     | no h ↦ let e : p ≡ 0 = omega arith in subst (λ z. Same (spotAt z 0 0) (spotAt z 0 0)) e (first (c .one) o)
   ]
 
-  high : (i j : ℕ) → j ≡ i + l → p ≤ i → Copy (placeAt qs j) (placeAt ps i)
-  high i j e h = subst (λ z. Copy (placeAt qs z) (placeAt ps i)) (sym e) (high-copy c i h)
-
   -- the run is in a copy of the place
   copy : (s t : Spot) → Same s t → Copy (placeAt qs (here t)) (placeAt ps (here s))
   copy s t (early {q} {o = i} a h) = low-copy c (q + i) (omega (arith, ends-by c q (omega arith) .0))
   copy s t (first {o = i} a h) = low-copy c (p + i) (omega arith)
-  copy s t (second {o = i} a h) = high (p + i) (p + l + i) (omega arith) (omega arith)
-  copy s t (late {q} {o = i} a) = high (q + i) (q + l + i) (omega arith) (omega arith)
+  copy s t (second {o = i} a h) = high-copy c (p + i) (p + l + i) (omega arith) (omega arith)
+  copy s t (late {q} {o = i} a) = high-copy c (q + i) (q + l + i) (omega arith) (omega arith)
 
   pub halves-show : ShowsSame ps (halves ps p l b m k)
   halves-show = shows-by ps qs Same start step (λ s t h. copy s t h .state) (λ s t h. copy s t h .marks)
