@@ -6,10 +6,10 @@ use Rattle.input.proofs.read.Statement.{statement}
 use Rattle.input.proofs.read.Tie as tie
 
 abbrev Inv-loop : tie.InvT-loop
-Inv-loop part₀ got₀ turns₀ part got turns = length part ≡ length part₀
+Inv-loop fd part₀ got₀ turns₀ part got turns = length part ≡ length part₀
 
 abbrev μ-loop : tie.MeasureT-loop
-μ-loop part₀ got₀ turns₀ part got turns = turns
+μ-loop fd part₀ got₀ turns₀ part got turns = turns
 
 read-requires : tie.Need-read-requires Inv-loop μ-loop
 read-requires c κs = search needs

@@ -1,4 +1,4 @@
--- `input::read_all` is safe and ends, and the bytes that it counts lie in the buffer. The loop's invariant: so do those read so far. The measure
+-- `input::read_from` is safe and ends, and the bytes that it counts lie in the buffer. The loop's invariant: so do those read so far. The measure
 -- is the room that is left, since each turn that goes on has read a byte. Assumes nothing.
 use borrow.Author.Needs.{needs}
 use mathlib.Core.Path.{_≡_}
@@ -6,14 +6,14 @@ use Prim.Native.Nat.{_-_, _≤_}
 use native.Mathlib.Omega.{arith}
 use lib.ListN.{length}
 use Rattle.io.proofs.Counting.{counts}
-use Rattle.input.proofs.read_all.Statement.{statement}
-use Rattle.input.proofs.read_all.Tie as tie
+use Rattle.input.proofs.read_from.Statement.{statement}
+use Rattle.input.proofs.read_from.Tie as tie
 
 abbrev Inv-loop : tie.InvT-loop
-Inv-loop buf₀ count₀ buf count = (count ≤ length buf) × (length buf ≡ length buf₀)
+Inv-loop fd buf₀ count₀ buf count = (count ≤ length buf) × (length buf ≡ length buf₀)
 
 abbrev μ-loop : tie.MeasureT-loop
-μ-loop buf₀ count₀ buf count = length buf - count
+μ-loop fd buf₀ count₀ buf count = length buf - count
 
 loop-holds : tie.Need-loop-holds Inv-loop μ-loop
 loop-holds c = search needs
@@ -69,8 +69,8 @@ same-length-3 c = search needs
 returns-3 : tie.Need-returns-3 Inv-loop μ-loop
 returns-3 c = counts _ _ (omega arith)
 
-pub read-all-spec : {M : Type 1} → statement M
-read-all-spec =
+pub read-from-spec : {M : Type 1} → statement M
+read-from-spec =
     tie.close
     (tie.spec
     Inv-loop
