@@ -1,5 +1,5 @@
 #!/usr/bin/env python3
-"""documents.py: what README.md and docs/ say of the crates is there: files, crates and their layers, public functions, must-fail edits.
+"""documents.py: what README.md and docs/ say of the crates is there: files, crates and their layers, public functions, must-fail edits; and the version.
 
 The notes are history and are not looked at. What FORMAT.md says of the rules is tested by format.py.
 """
@@ -97,9 +97,16 @@ def unpromised():
             yield f"docs/PROMISES.md: {what} {name} is {'not there' if name in named else 'left out'}"
 
 
+def misnumbered():
+    """A version that isn't that of the newest note."""
+    newest = max(int(file.name.split("-")[0]) for file in (ROOT / "docs" / "notes").glob("*.md"))
+    if (ROOT / "VERSION").read_text() != f"0.{newest}\n":
+        yield f"VERSION: the newest note is {newest}"
+
+
 def main():
     documents = ["README.md"] + sorted(f"docs/{file.name}" for file in (ROOT / "docs").glob("*.md"))
-    wrong = [text for name in documents for text in absent_files(name)] + list(misplaced()) + list(unpromised())
+    wrong = [text for name in documents for text in absent_files(name)] + list(misplaced()) + list(unpromised()) + list(misnumbered())
     for text in wrong:
         print(f"documents: {text}")
     crates, functions = len(stands_on()), len(set(public_functions()))

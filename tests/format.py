@@ -23,7 +23,7 @@ FIELDS = range(1, 9)
 SPELLED = range(-999999, 10000000)
 
 # What the document has at least. Whoever adds to it raises them.
-LEAST = {"examples": 105, "results": 18, "forms": 7, "spellings": 17, "rows": 27, "kinds": 6, "rules": 117, "citations": 271}
+LEAST = {"examples": 105, "results": 18, "forms": 7, "spellings": 17, "rows": 27, "kinds": 6, "rules": 117, "citations": 272}
 
 CITATION = re.compile(r"\[`([a-z_]+/(?:specs|src)/\w+\.(?:antt|rt))`: (`[^`]+`(?:, `[^`]+`)*)\]")
 GIVES = re.compile(r"gives (\d+ \d+ \d+)(?: +with (.*?))? *(?:#.*)?")

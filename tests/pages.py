@@ -11,7 +11,8 @@ CRATES = ROOT / "crates"
 ANSWERS = "answers/specs/Answers.antt"
 JUDGED = "meaning/specs/Judged.antt"
 
-PUT = re.compile(r'put (\d+) (\d+) "(.*)"')
+PUT = re.compile(r'(put|insert) (\d+) (\d+) "(.*)"')
+DELETE = re.compile(r"delete (\d+) (\d+) (\d+)")
 CUT = re.compile(r"cut (\d+)")
 BUT = re.compile(r"(\d+) ([SWGTFP].*)")
 ESCAPED = re.compile(rb"\\(?:x([0-9a-f]{2})|(\\))")
@@ -55,18 +56,23 @@ def unspelled(text):
 
 
 def changed(data, change):
-    """The file after one change: a record in the place of another, bytes written into a record, or only so many bytes of the file."""
-    if put := PUT.fullmatch(change):
-        start, patch = int(put[1]) * LENGTH + int(put[2]), unspelled(put[3])
-    elif end := CUT.fullmatch(change):
+    """The file after one change: a record in the place of another; bytes written into a record, or inserted before a byte of it; so many deleted from a byte of it on;
+    or only so many bytes of the file."""
+    if end := CUT.fullmatch(change):
         return data[:int(end[1])]
+    if put := PUT.fullmatch(change):
+        start, patch = int(put[2]) * LENGTH + int(put[3]), unspelled(put[4])
+        gone = len(patch) if put[1] == "put" else 0
+    elif delete := DELETE.fullmatch(change):
+        start, patch, gone = int(delete[1]) * LENGTH + int(delete[2]), b"", int(delete[3])
     elif but := BUT.fullmatch(change):
         start, patch = int(but[1]) * LENGTH, spell(but[2])
+        gone = len(patch)
     else:
         raise ValueError(f"no change of a case: {change}")
-    if start + len(patch) > len(data):
+    if start + gone > len(data):
         raise ValueError(f"past the end of the case: {change}")
-    return data[:start] + patch + data[start + len(patch):]
+    return data[:start] + patch + data[start + gone:]
 
 
 def with_changes(data, changes):

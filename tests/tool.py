@@ -5,7 +5,7 @@ The program, with its words as arguments and the case on standard input: the cas
 plancheck says of them, inputs of all shapes, and arguments that it must refuse. A filled file is judged with 0 or 35, and filled as it is; the
 rounds at the ends of those that are found, set, are accepted, and those beside them aren't. The wrapper: what it puts where and its status, for
 each sort of answer and of bad usage, and what a terminal shows; in a small repository, that it builds the program, passes numbers on, and never
-gives a part of a file. What README.md, FORMAT.md and EXPLAIN.md show of it, run.
+gives a part of a file. A refusal is said as `tools/case explain --word` says it. What README.md and FORMAT.md show of the two, run.
 """
 import os
 import pathlib
@@ -16,18 +16,16 @@ import sys
 import tempfile
 
 from cases import LENGTH, ROOT, TWELVE, spelled, stored, with_field, worded
-from pages import blocks, changed, cut, results_defined, spell, with_changes
+from pages import blocks, changed, cut, spell, with_changes
 from program import answered, refused, shapes, slowly, unreadable
 from tally import Tally
-from wrapper import WRITES, linked_tools, repository, run
+from wrapper import IS_FOLDER, NO_FILE, NO_ROOM, TOO_LARGE, WRITES, linked_tools, little_room, no_room, repository, run, says, unheard, usage
 from wrapper import refused as said
 
 FILL = ROOT / "tests" / "fill.tsv"
 ROUNDS = ROOT / "tests" / "rounds.tsv"
 WRAPPER = ROOT / "plantool"
-MEANINGS = ROOT / "tools" / "results.txt"
-# What this wrapper calls beside what the other one does.
-TOOLS = ["cat", "mktemp", "tail", "wc"]
+CASE = ROOT / "tools" / "case"
 # The results that the files of cases have at least by word, with a record that is refused; and those of the words alone.
 RESULTS = {"fill": {0, 23, 24, 31, 32, 33, 37}, "rounds": {0, 15, 24, 27, 31, 32, 33, 34, 35}, "set": {0, 15, 16, 24, 27}}
 CHANGES = 37
@@ -66,9 +64,9 @@ NO_WORDS = [
 ]
 # Arguments of the wrapper that are bad usage; "plain" is a file that is there.
 BAD_USAGE = [
-    [], ["--raw"], ["--help"], ["plain"], ["fil", "plain"], ["FILL", "plain"], ["", "plain"], ["fill|", "plain"], ["*", "plain"],
-    ["fill\nfill", "plain"], ["fill"], ["--raw", "fill"], ["-", "fill"], ["fill", "plain", "plain"], ["fill", "plain", "-"], ["fill", "1", "plain"], ["fill", "--raw", "plain"],
-    ["--raw", "fill", "plain", "plain"], ["--raw", "--raw", "fill", "plain"],
+    [], ["--raw"], ["--"], ["--raw", "--"], ["plain"], ["fil", "plain"], ["FILL", "plain"], ["", "plain"], ["fill|", "plain"], ["*", "plain"],
+    ["fill\nfill", "plain"], ["fill"], ["--raw", "fill"], ["-", "fill"], ["fill", "plain", "plain"], ["fill", "plain", "-"], ["fill", "1", "plain"],
+    ["--raw", "fill", "plain", "plain"], ["--", "--raw", "fill", "plain"], ["--rawer", "fill", "plain"], ["fill", "-x"], ["-r", "fill", "plain"],
     ["rounds", "plain"], ["rounds", "0"], ["rounds", "0", "1", "plain"], ["rounds", "plain", "0"], ["rounds", "00", "plain"],
     ["--raw", "rounds", "plain"], ["set", "plain"], ["set", "0", "plain"], ["set", "0", "1"], ["set", "0", "1", "2", "plain"],
     ["set", "0", "-1", "plain"], ["--raw", "set", "0", "plain"],
@@ -85,7 +83,7 @@ FAILING = [
     "printf '0 0 0'; exit 3", "echo 0 4 0; echo abc; kill -9 $$",
 ]
 # More words for the wrapper of a small repository, whose program is a script of the shell.
-MORE_WORDS = "    'count|L|line|so many'\n    'two|L N|file|two'\n"
+MORE_WORDS = '    "count": Word(["L"], ALONE, "so many"),\n    "two": Word(["L", "N"], FILE, "two"),\n'
 
 
 def filled(data):
@@ -98,13 +96,18 @@ def product(output):
     return output[output.index("\n") + 1:].encode("latin-1")
 
 
-def meaning(line):
-    """What the wrapper says of a refusal: the line, and what it means."""
-    result, *numbers = line.split()
-    rows = [row.split(" ", 3) for row in MEANINGS.read_text(encoding="ascii").splitlines()]
-    [(*names, words)] = [row[1:] for row in rows if row[0] == result]
-    named = [f"{name} {number}" for name, number in zip(names, numbers) if name != "-" and (name, number) != ("field", "0")]
-    return f"{line}\n{words}{': ' if named else ''}{', '.join(named)}\n"
+def explained(program, words, data):
+    """What `tools/case explain` says of what a word prints."""
+    surroundings = {**os.environ, "PLANTOOL": program}
+    return subprocess.run([sys.executable, CASE, "explain", "--word", *words, "-"], input=data, stdout=subprocess.PIPE, env=surroundings).stdout.decode()
+
+
+def is_refused(tally, program, words, line, data, here):
+    """A refusal: nothing is printed, and standard error has the line and the words for it; with --raw the line is printed."""
+    status, printed, message = run(WRAPPER, *words, "-", input=data, **here)
+    tally.equal(f"{words}: {line} is refused", (1, "", line), (status, printed, message.split("\n")[0]))
+    tally.equal(f"{words}: {line} is explained", explained(program, words, data), message)
+    tally.equal(f"{words}: {line} is printed raw", (1, line + "\n", ""), run(WRAPPER, "--raw", *words, "-", input=data, **here))
 
 
 # ---- the program
@@ -187,12 +190,15 @@ def words(tally, program):
     for arguments, want in ((["fill"], filled(TWELVE)), (["rounds", "0"], "0 1 1000000\n"), (["set", "0", "12"], filled(TWELVE))):
         tally.equal(f"{arguments[0]}, a byte at a time", want, slowly([program, *arguments]))
         unreadable(tally, [program, *arguments])
+        with open("/dev/full", "wb") as full:
+            want = (0, "", says("plantool", "standard output", NO_ROOM))
+            tally.equal(f"{arguments[0]}: a full disk is told", want, run(program, *arguments, stdout=full, input=TWELVE))
 
 
 # ---- the wrapper
 
 
-def answers(tally, folder, path):
+def answers(tally, program, folder, path):
     """What is printed where, and the status. The path has no rt, so nothing can be built."""
     files = {"plain": UNMARKED, "right": MARKED, "two words": UNMARKED, "-x": UNMARKED, "--raw": UNMARKED}
     for name, data in files.items():
@@ -204,18 +210,19 @@ def answers(tally, folder, path):
         ("a file", done, [WRAPPER, "fill", "plain"]),
         ("one whose marks are right", done, [WRAPPER, "fill", "right"]),
         ("a name with a space", done, [WRAPPER, "fill", "two words"]),
-        ("a name with a dash", done, [WRAPPER, "fill", "-x"]),
-        ("a name like an option", done, [WRAPPER, "fill", "--raw"]),
+        ("a name with a dash", done, [WRAPPER, "fill", "./-x"]),
+        ("a name behind the end of options", done, [WRAPPER, "fill", "--", "-x"]),
+        ("a name like an option", done, [WRAPPER, "--", "fill", "--raw"]),
         ("through a link", done, ["./link", "fill", "plain"]),
         ("found in the path", done, ["plantool", "fill", "plain"]),
         ("raw", raw, [WRAPPER, "--raw", "fill", "plain"]),
+        ("raw, behind the word", raw, [WRAPPER, "fill", "--raw", "plain"]),
     ):
         tally.equal(what, want, run(*command, **here))
     tally.equal("with a closed standard input", done, run(WRAPPER, "fill", "plain", preexec_fn=lambda: os.close(0), **here))
     tally.equal("standard input", done, run(WRAPPER, "fill", "-", input=UNMARKED, **here))
     for line, data in REFUSED.items():
-        tally.equal(f"{line} is refused", (1, "", meaning(line)), run(WRAPPER, "fill", "-", input=data, **here))
-        tally.equal(f"{line} is printed raw", (0, line + "\n", ""), run(WRAPPER, "--raw", "fill", "-", input=data, **here))
+        is_refused(tally, program, ["fill"], line, data, here)
 
 
 def on_terminal(*command, data):
@@ -233,71 +240,75 @@ def on_terminal(*command, data):
     return done.returncode, shown.decode("latin-1").replace("\r\n", "\n")
 
 
-def loops(tally, folder, path):
+def loops(tally, program, folder, path):
     """Rounds found and set: into a pipe only the line, or only the file, and on a terminal the line in words too."""
     here = {"cwd": folder, "env": {"PATH": path}}
     (folder / "box").write_bytes(BOX)
     for want, words in (
         ((0, "0 11 21\n", ""), ["rounds", "0", "box"]),
         ((0, "0 1 1000000\n", ""), ["rounds", "1", "box"]),
-        ((1, "", meaning("27 2 0")), ["rounds", "2", "box"]),
-        ((0, "27 3 0\n", ""), ["--raw", "rounds", "3", "box"]),
         ((0, with_field(BOX, 7, 5, "1000000").decode(), ""), ["set", "0", "1000000", "box"]),
         ((0, filled(with_field(BOX, 8, 5, "1")), ""), ["--raw", "set", "1", "1", "box"]),
-        ((1, "", meaning("27 2 0")), ["set", "2", "0", "box"]),
-        ((1, "", meaning("16 8 5")), ["set", "1", "0", "box"]),
-        ((0, "16 7 5\n", ""), ["--raw", "set", "0", "1000001", "box"]),
     ):
         tally.equal(" ".join(words), want, run(WRAPPER, *words, **here))
+    for line, words in (
+        ("27 2 0", ["rounds", "2"]), ("27 3 0", ["rounds", "3"]), ("27 2 0", ["set", "2", "0"]), ("16 8 5", ["set", "1", "0"]), ("16 7 5", ["set", "0", "1000001"]),
+    ):
+        is_refused(tally, program, words, line, BOX, here)
     for line, data in REFUSED.items():
         result = int(line.split()[0])
         for words in [["rounds", "0"]] * (result != CHANGES) + [["set", "0", "1"]] * (result < 30):
-            tally.equal(f"{line} is refused by {words[0]}", (1, "", meaning(line)), run(WRAPPER, *words, "-", input=data, **here))
+            is_refused(tally, program, words, line, data, here)
     for want, words, data in (
         ((0, "0 11 21\nplantool: loop 0 may have 11 to 21 rounds\n"), ["rounds", "0"], BOX),
         ((0, "0 11 11\nplantool: loop 0 may have no other number of rounds than 11\n"), ["rounds", "0"], ALONE),
         ((0, "0 11 21\n"), ["--raw", "rounds", "0"], BOX),
-        ((1, meaning("27 2 0")), ["rounds", "2"], BOX),
+        ((1, explained(program, ["rounds", "2"], BOX)), ["rounds", "2"], BOX),
         ((0, with_field(BOX, 8, 5, "9").decode()), ["set", "1", "9"], BOX),
     ):
         tally.equal(f"on a terminal: {' '.join(words)}", want, on_terminal(WRAPPER, *words, "-", data=data))
 
 
-def refuses(tally, folder, path):
-    """What gives nothing to print: bad usage, and files that can't be opened or read."""
+def no_answer(tally, folder, path):
+    """What gives no answer: bad usage, files that can't be opened or read, no room for what is printed."""
     here = {"cwd": folder, "env": {"PATH": path}}
     for arguments in BAD_USAGE:
         status, printed, message = run(WRAPPER, *arguments, **here)
         tally.equal(f"bad usage: {arguments}", (2, "", True), (status, printed, "\nusage: ./plantool " in message))
-    for arguments in (["fill", "absent"], ["fill", "."], ["fill", ""], ["--raw", "fill", "absent"], ["--raw", "fill", "."]):
-        said(tally, f"no file: {arguments}", 1, run(WRAPPER, *arguments, **here))
-    said(tally, "a closed standard input", 1, run(WRAPPER, "fill", "-", preexec_fn=lambda: os.close(0), **here))
+    tally.equal("the nearest word", says("plantool", "there is no word 'fil'; the nearest is fill"), run(WRAPPER, "fil", "plain", **here)[2].split("usage")[0])
     for option in ([], ["--raw"]):
-        with open("/dev/full", "wb") as full:
-            said(tally, f"no room for what is printed {option}", 1, run(WRAPPER, *option, "fill", "plain", stdout=full, **here))
-    said(tally, "no room for the program's output", 1, run(WRAPPER, "fill", "plain", cwd=folder, env={"PATH": path, "TMPDIR": str(folder / "absent")}))
-    left = folder / "temporary"
-    left.mkdir()
-    for file in ("plain", "absent", "."):
-        run(WRAPPER, "fill", file, cwd=folder, env={"PATH": path, "TMPDIR": str(left)})
-    tally.equal("files that are left", [], list(left.iterdir()))
+        for name, why in (("absent", NO_FILE), (".", IS_FOLDER), ("", NO_FILE)):
+            want = (2, "", says("plantool", f"cannot read {name or repr('')}", why))
+            tally.equal(f"no file: {name!r} {option}", want, run(WRAPPER, *option, "fill", name, **here))
+        no_room(tally, "plantool", [WRAPPER, *option, "fill", "plain"], here)
+        for room in (0, 100):
+            whole = filled(MARKED) if option else MARKED.decode()
+            tally.equal(f"files of {room} bytes, and a pipe {option}", (0, whole, ""), run(WRAPPER, *option, "fill", "plain", preexec_fn=little_room(room), **here))
+            with open(folder / "out", "wb") as out:
+                status, _, message = run(WRAPPER, *option, "fill", "plain", stdout=out, preexec_fn=little_room(room), **here)
+            tally.equal(f"a file of {room} bytes {option}", (2, says("plantool", "standard output", TOO_LARGE)), (status, message))
+    unheard(tally, WRAPPER, **here)
+    said(tally, "a closed standard input", 2, run(WRAPPER, "fill", "-", preexec_fn=lambda: os.close(0), **here))
 
 
 def small_repository(tally, folder, path):
     """The wrapper builds its program. Then with a program of the shell, and words of its own: numbers, and programs that fail."""
     crate, program = repository(folder, WRAPPER), folder / "target" / "bin" / "plantool"
-    wrapper, empty = folder / "plantool", {"input": b""}
-    (crate / "src" / "main.rt").write_text(WRITES % "0 3 0\\nabc")
-    (crate / "stdout").write_text("0 3 0\nabc\n")
+    wrapper, words, empty = folder / "plantool", folder / "tools" / "command.py", {"input": b""}
+    usage(tally, wrapper, {"env": {"PATH": path}})
+    want = says("plantool", "cannot read absent", NO_FILE)
+    tally.equal("an absent file is told before anything is built", (2, "", want), run(wrapper, "fill", "absent", cwd=folder, env={"PATH": path}))
+    (crate / "src" / "main.rt").write_text(WRITES % "0 4 0\\nabc")
+    (crate / "stdout").write_text("0 4 0\nabc\n")
     tally.equal("no program and no rt", (2, ""), run(wrapper, "fill", "-", env={"PATH": path}, **empty)[:2])
-    tally.equal("built from nothing", (0, "0 3 0\nabc\n"), run(wrapper, "--raw", "fill", "-", **empty)[:2])
+    tally.equal("built from nothing", (0, "0 4 0\nabc\n"), run(wrapper, "--raw", "fill", "-", **empty)[:2])
 
     def shell(text):
         program.write_text(f"#!/bin/sh\n{text}\n")
 
-    text = wrapper.read_text()
-    wrapper.write_text(re.sub(r"^(    'fill\|.*\n)", lambda found: found[1] + MORE_WORDS, text, flags=re.M))
-    tally.equal("a word is one line", text.count("\n") + MORE_WORDS.count("\n"), wrapper.read_text().count("\n"))
+    text = words.read_text()
+    words.write_text(re.sub(r'^(    "fill": .*\n)', lambda found: found[1] + MORE_WORDS, text, flags=re.M))
+    tally.equal("a word is one line", text.count("\n") + MORE_WORDS.count("\n"), words.read_text().count("\n"))
     shell('echo "0 $# $2"')
     for number in NUMBERS:
         tally.equal(f"the number {number:.30}", (0, f"0 2 {number}\n", ""), run(wrapper, "count", number, "-", **empty))
@@ -315,9 +326,10 @@ def small_repository(tally, folder, path):
     tally.equal("a result without words", (1, "", "99 1 2\n"), run(wrapper, "two", "1", "2", "-", **empty))
     for script in FAILING:
         shell(script)
-        said(tally, f"a program that fails: {script}", 1, run(wrapper, "two", "1", "2", "-", **empty))
+        for option in ([], ["--raw"]):
+            said(tally, f"a program that fails: {script} {option}", 2, run(wrapper, *option, "two", "1", "2", "-", **empty))
     shell("exit 0")
-    tally.equal("a program that says nothing", (1, ""), run(wrapper, "fill", "-", **empty)[:2])
+    tally.equal("a program that says nothing", (2, ""), run(wrapper, "fill", "-", **empty)[:2])
 
 
 # ---- the documents
@@ -366,37 +378,6 @@ def loops_in_format_page(tally, program):
     tally.equal("FORMAT.md has examples of rounds", True, min(examples.values()) >= 9)
 
 
-def loops_in_explain_page(tally):
-    """The blocks of EXPLAIN.md: words, and what a terminal shows."""
-    text = (ROOT / "docs" / "EXPLAIN.md").read_text(encoding="ascii")
-    cases, results = [(first, spell("\n".join(lines))) for first, lines in blocks(text, "case")], set()
-    for first, [words, *lines] in blocks(text, "rounds"):
-        changes = lines.pop(0).removeprefix("with ") if lines[0].startswith("with ") else None
-        data = with_changes([case for line, case in cases if line < first][-1], changes)
-        results.add(int(lines[0].split()[0]))
-        want = (int(not lines[0].startswith("0 ")), "".join(line + "\n" for line in lines))
-        tally.equal(f"EXPLAIN.md: line {first}", want, on_terminal(WRAPPER, *words.split(), "-", data=data))
-    tally.equal("EXPLAIN.md has rounds, 27 and 16 by set", True, {0, 16, NO_LOOP} <= results)
-
-
-def explain_page(tally):
-    """The blocks of EXPLAIN.md: what the wrapper says of a refusal."""
-    text = (ROOT / "docs" / "EXPLAIN.md").read_text(encoding="ascii")
-    cases, results = [(first, spell("\n".join(lines))) for first, lines in blocks(text, "case")], set()
-    for first, lines in blocks(text, "fill"):
-        changes = lines.pop(0).removeprefix("with ") if lines[0].startswith("with ") else None
-        data = with_changes([case for line, case in cases if line < first][-1], changes)
-        tally.equal(f"EXPLAIN.md: line {first}", (1, "", "".join(line + "\n" for line in lines)), run(WRAPPER, "fill", "-", input=data))
-        results.add(int(lines[0].split()[0]))
-    tally.equal("EXPLAIN.md has 37", True, CHANGES in results)
-
-
-def meanings(tally):
-    """Every result has its words, once."""
-    rows = [row.split(" ", 3) for row in MEANINGS.read_text(encoding="ascii").splitlines() if not row.startswith("#")]
-    tally.equal("results that have words", sorted({*results_defined(), CHANGES, NO_LOOP}), sorted(int(row[0]) for row in rows))
-
-
 def main():
     if len(sys.argv) != 3:
         sys.exit(__doc__)
@@ -410,19 +391,16 @@ def main():
         tools, files, small, shown = (pathlib.Path(name) / part for part in ("tools", "files", "small", "shown"))
         for folder in (tools, files, small, shown):
             folder.mkdir()
-        linked_tools(tools, TOOLS)
+        linked_tools(tools)
         # after a change of any crate, the next call looks whether the program is built, and may build it
         tally.equal("the program is built", 0, run(WRAPPER, "--raw", "fill", ROOT / "crates" / "plancheck" / "stdin", timeout=None)[0])
-        answers(tally, files, tools)
-        loops(tally, files, tools)
-        refuses(tally, files, tools)
+        answers(tally, program, files, tools)
+        loops(tally, program, files, tools)
+        no_answer(tally, files, tools)
         small_repository(tally, small, tools)
         readme(tally, shown)
     format_page(tally, program)
     loops_in_format_page(tally, program)
-    explain_page(tally)
-    loops_in_explain_page(tally)
-    meanings(tally)
     tally.finish(f" ({filled_cases} cases of fill.tsv, {loop_cases} of rounds.tsv)")
 
 
