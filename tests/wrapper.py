@@ -119,7 +119,7 @@ def several(tally, folder, path):
         tally.equal(f"several: {what}", want, run(WRAPPER, *words, **here))
     tally.equal("several: standard input", (0, good + "0 0 0 -\n", ""), run(WRAPPER, "plain", "-", input=TWELVE, **here))
     status, lines, message = run(WRAPPER, "plain", "line\nfeed", "plain", **here)
-    tally.equal("several: a name with a line feed that is absent", (2, good * 2, True), (status, lines, NO_FILE in message))
+    tally.equal("several: a name with a line feed that is absent", (2, good * 2, says("plancheck", r"cannot read 'line\nfeed'", NO_FILE)), (status, lines, message))
     (folder / "line\nfeed").write_bytes(TWELVE)
     status, lines, message = run(WRAPPER, "plain", "line\nfeed", "plain", **here)
     tally.equal("several: a name with a line feed", (2, good * 2, True), (status, lines, "line feed" in message))

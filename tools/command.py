@@ -117,8 +117,8 @@ def arguments(words, known):
 
 
 def named(file):
-    """A file's name as it is said."""
-    return "standard input" if file == "-" else file or "''"
+    """A file's name as it is said: so that all of it can be seen."""
+    return "standard input" if file == "-" else file if file and file.isprintable() else ascii(file)
 
 
 def read(file, most=MOST):
