@@ -70,6 +70,7 @@ def end_by(number):
     """Ends this process by a signal."""
     signal.signal(number, signal.SIG_DFL)
     os.kill(os.getpid(), number)
+    sys.exit(NO_ANSWER)  # where the signal is held back
 
 
 def version():
