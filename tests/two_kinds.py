@@ -46,7 +46,7 @@ def columns(line):
     return None
 
 
-def is_read_rightly(tally, name, text, turn, notation_of):
+def is_read_rightly(tally, name, text, turn=spell):
     """A command that reads the notation refuses a case file, with what to do; and what it takes has no record that could be read by columns as another."""
     made, why = answer(turn, text)
     if is_case_file(text):
@@ -56,7 +56,7 @@ def is_read_rightly(tally, name, text, turn, notation_of):
     for line in (part.strip(" ") for line in text.split("\n") for part in line.split("#")[0].split(" / ")):
         words, fields = line.split(), columns(line)
         tally.equal(f"{name}: {line!r} is read one way", True, fields is None or " ".join(fields).rstrip(" .") == " ".join(words[1:]))
-    tally.equal(f"{name}: its words", words_of(text), notation_of(made))
+    tally.equal(f"{name}: its words", words_of(text), spelled(made))
     return True
 
 
@@ -103,12 +103,12 @@ def stored_cases(tally):
     for case in stored():
         text = case.data[:300 * LENGTH].decode("latin-1")
         for how, other in damaged(text):
-            seen["read" if is_read_rightly(tally, f"{case.name}, {how}", other, spell, spelled) else "refused"] += 1
+            seen["read" if is_read_rightly(tally, f"{case.name}, {how}", other) else "refused"] += 1
         tally.equal(f"{case.name}: a case file isn't said to be notation", False, is_case_file(text) and reads(text))
         records = case.records.split("/") if case.records else []
         for how, other in lined_up(records):
             name = f"{case.name}, {how}"
-            seen["read" if is_read_rightly(tally, name, other, spell, spelled) else "refused"] += 1
+            seen["read" if is_read_rightly(tally, name, other) else "refused"] += 1
             made, why = answer(show, other)
             tally.equal(f"{name}: isn't shown", True, not records or is_case_file(other) or (made is None and (SPELL in why) == reads(other)))
         tally.equal(f"{case.name}: notation is said to be it", True, not records or bool(case.edits) or reads("\n".join(records)))
@@ -131,7 +131,7 @@ def random_texts(tally, count):
         if draw.random() < 0.3:
             at = draw.randrange(len(text))
             text = text[:at] + draw.choice([" ", ".", "-", "0", "/", "#", "\r", "S"]) + text[at + draw.randrange(2):]
-        seen[is_read_rightly(tally, f"random text {number}", text, spell, spelled)] += 1
+        seen[is_read_rightly(tally, f"random text {number}", text)] += 1
     tally.equal("random texts, read and refused", True, min(seen.values()) > count // 20)
 
 
@@ -154,7 +154,7 @@ def planted(tally):
 
     for _, text in damaged("".join(pack(record.split()).decode() for record in ("S 1", "P 0 . 21"))):
         try:
-            is_read_rightly(found, "planted", text, careless, spelled)
+            is_read_rightly(found, "planted", text, careless)
         except (KeyError, TypeError, ValueError):
             pass
     tally.equal("a careless reader is found", True, found.failed >= 4)

@@ -189,35 +189,35 @@ def usage(tally, wrapper, here):
     tally.equal("--version", (0, f"Redwoodjig {version}{kit}", ""), run(wrapper, "--version"))
 
 
-def builds(tally, folder, path):
-    """A repository in which nothing is built yet."""
-    crate, program = repository(folder, WRAPPER), folder / "target" / "bin" / "plancheck"
-    source, wrapper = crate / "src" / "main.rt", folder / "plancheck"
-    command, without = [wrapper, "/dev/null"], {"env": {"PATH": path}, "cwd": folder}
+def told_first(tally, wrapper, here):
+    """What is told before anything is built, of a repository in which nothing is."""
+    usage(tally, wrapper, here)
+    for words, why in BAD_USAGE:
+        want = says("plancheck", why) + "usage: ./plancheck FILE ..   (- for standard input)\n"
+        tally.equal(f"bad usage: {words}", (2, "", want), run(wrapper, *words, **here))
+    for words in (["absent"], ["absent", "absent"]):
+        want = says("plancheck", "cannot read absent", NO_FILE) * len(words)
+        tally.equal(f"{words} is told before anything is built", (2, "", want), run(wrapper, *words, **here))
+    status, line, message = run(wrapper, "/dev/null", **here)
+    tally.equal("no program and no rt", (2, "", True), (status, line, "rt is missing" in message))
+
+
+def builds(tally, command, crate, program):
+    """The wrapper builds its program where it is absent or older than the crates, and only then."""
     first, second = (1, "1 2 3\n", ""), (1, "4 5 6\n", "")
 
     def write(text, line):
-        source.write_text(text)
+        (crate / "src" / "main.rt").write_text(text)
         (crate / "stdout").write_text(line)
 
-    usage(tally, wrapper, without)
-    for words, why in BAD_USAGE:
-        want = says("plancheck", why) + "usage: ./plancheck FILE ..   (- for standard input)\n"
-        tally.equal(f"bad usage: {words}", (2, "", want), run(wrapper, *words, **without))
-    for words in (["absent"], ["absent", "absent"]):
-        want = says("plancheck", "cannot read absent", NO_FILE) * len(words)
-        tally.equal(f"{words} is told before anything is built", (2, "", want), run(wrapper, *words, **without))
     write(WRITES % "1 2 3", "1 2 3\n")
-    status, line, message = run(*command, env={"PATH": path})
-    tally.equal("no program and no rt", (2, "", True), (status, line, "rt is missing" in message))
     status, line, message = run(*command)
     tally.equal("built from nothing", first[:2], (status, line))
-    tally.equal("built from nothing: each crate is told", ["1 crates", "crate 1 of 1: plancheck proved"], [
-        part for part in ("1 crates", "crate 1 of 1: plancheck proved") if part in message
-    ])
+    for part in ("1 crates", "crate 1 of 1: plancheck proved"):
+        tally.equal(f"built from nothing: {part}", True, part in message)
     made = program.stat().st_mtime_ns
     tally.equal("not built again", (first, made), (run(*command), program.stat().st_mtime_ns))
-    source.touch()
+    (crate / "src" / "main.rt").touch()
     tally.equal("touched: nothing is said", first, run(*command))
     tally.equal("touched, and not built again", first, run(*command))
     program.unlink()
@@ -225,15 +225,29 @@ def builds(tally, folder, path):
     write(WRITES % "4 5 6", "4 5 6\n")
     tally.equal("built after a change", second[:2], run(*command)[:2])
     tally.equal("built after a change, and not again", second, run(*command))
+    write(PAST_THE_END, "")
+    refused(tally, "not proved", 2, run(*command))
+    tally.equal("not proved: there is a program", False, program.exists())
+
+
+def failing(tally, command, program):
+    """Programs of the shell that print no line, or not one for each file: no answer."""
     for script in ("echo 0 0 0; kill -9 $$", "exit 3", "true", "echo 0 0", "echo 0 0 0 0", "echo 0 0 0; echo 0 0 0", "echo 1.0 0 0"):
         program.write_text(f"#!/bin/sh\n{script}\n")
+        program.chmod(0o755)
         refused(tally, f"a program that fails: {script}", 2, run(*command))
     for script in ("echo 0 0 0 /dev/null; kill -9 $$", "echo 0 0 0 /dev/null", "true"):
         program.write_text(f"#!/bin/sh\n{script}\n")
         tally.equal(f"a program that fails with several: {script}", 2, run(*command, "/dev/null")[0])
-    write(PAST_THE_END, "")
-    refused(tally, "not proved", 2, run(*command))
-    tally.equal("not proved: there is a program", False, program.exists())
+
+
+def small_repository(tally, folder, path):
+    """A repository in which nothing is built yet, and whose program only writes a line."""
+    crate, program = repository(folder, WRAPPER), folder / "target" / "bin" / "plancheck"
+    command = [folder / "plancheck", "/dev/null"]
+    told_first(tally, command[0], {"env": {"PATH": path}, "cwd": folder})
+    builds(tally, command, crate, program)
+    failing(tally, command, program)
 
 
 def readme(tally, folder):
@@ -260,7 +274,7 @@ def main():
         several(tally, files, tools)
         notation(tally, files, tools)
         no_answer(tally, files, tools)
-        builds(tally, small, tools)
+        small_repository(tally, small, tools)
         readme(tally, shown)
     tally.finish()
 
