@@ -7,24 +7,17 @@ use native.Mathlib.Omega.{arith}
 use lib.ListN.{length, getD, take}
 use lib.Seq.{take-all, take-suc, length-take-le}
 use Rattle.laws.specs.All.{All, none, also}
-use Rattle.laws.specs.Members.{all-both}
 use Rattle.record.specs.Spelling.{digit}
 use Rattle.record.specs.Spell.{numeral}
-use Rattle.record_laws.specs.Digits.{numeral-by, numeral-one, numeral-more, numeral-length, numeral-small}
+use Rattle.record_laws.specs.Digits.{numeral-by, IsDigit, numeral-digits, numeral-one, numeral-more, numeral-length, numeral-small}
 use Rattle.number.specs.Numbers.{longest, IsNumber}
 
 -- ---- what the digits of a number are
-
-abbrev IsDigit : ℕ → Type 0
-IsDigit b = (digit 0 ≤ b) × (b ≤ digit 9)
 
 -- there is a first, and it is 0 of 0 only
 abbrev Begins : ℕ → List ℕ → Type 0
 Begins n [] = ⊥
 Begins n (b ∷ bs) = 0 < n → digit 0 < b
-
-numeral-digits : (n : ℕ) → All IsDigit (numeral n)
-numeral-digits = numeral-by (λ n. All IsDigit) (λ d h. also (omega arith, omega arith) none) (λ n d ds p h a. all-both a (also (omega arith, omega arith) none))
 
 begins-more : (n m : ℕ) (ds es : List ℕ) → 0 < n → Begins n ds → Begins m (ds ++ es)
 begins-more n m [] es p b = absurd b

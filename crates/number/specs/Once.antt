@@ -2,20 +2,13 @@
 use mathlib.Core.Path.{_≡_, refl, _∙_, sym, ap}
 use mathlib.Core.List.{List}
 use Prim.Native.Nat.{ℕ}
-use lib.IntN.{pos}
-use Rattle.record.specs.declared.Content.the-variants as content
-use Rattle.record.specs.Spelling.{contentOf}
-use Rattle.record.specs.Spell.{token}
-use Rattle.record_laws.specs.Reading.{token-reads}
+use Rattle.record_laws.specs.Reading.{numeral-apart}
 use Rattle.number.specs.declared.Number.{Number}
 use Rattle.number.specs.declared.Number.the-variants.{Is, Not}
 use Rattle.number.specs.Numbers.{IsNumber, ReadRightly}
 
 pub number-once : (bytes : List ℕ) (m n : ℕ) → IsNumber bytes m → IsNumber bytes n → m ≡ n
-unfolding token
-number-once bytes m n v w =
-    let q : content.Number (pos m) ≡ content.Number (pos n) = sym (token-reads (pos m) 0) ∙ ap contentOf (sym (v .0) ∙ w .0) ∙ token-reads (pos n) 0 in
-    cc
+number-once bytes m n v w = numeral-apart m n (sym (v .0) ∙ w .0)
 
 pub read-once : (bytes : List ℕ) (x y : Number) → ReadRightly bytes x → ReadRightly bytes y → x ≡ y
 read-once bytes (Is m) (Is n) v w = ap Is (number-once bytes m n v w)

@@ -8,6 +8,8 @@ use native.Mathlib.Omega.{arith}
 use lib.Dec.{ltb, leb, lit<}
 use lib.ListN.{length, length-append, replicate, length-replicate}
 use borrow.Author.Tests.{ltb-true, ltb-false, lt-ltb, le-ltb, leb-true, le-leb}
+use Rattle.laws.specs.All.{All, none, also}
+use Rattle.laws.specs.Members.{all-both}
 use Rattle.laws.specs.Tests.{cond-by}
 use Rattle.record.specs.declared.Content.{Content}
 use Rattle.record.specs.declared.Content.the-variants.{Number, Bad}
@@ -33,6 +35,13 @@ module _ (P : ℕ → List ℕ → Type 0) (one : (d : ℕ) → d < 10 → P d (
   pub numeral-by : (n : ℕ) → P n (numeral n)
   unfolding numeral
   numeral-by n = last-by (suc n) n (omega arith)
+
+-- a byte that is a digit, as all bytes of a number are
+abbrev pub IsDigit : ℕ → Type 0
+IsDigit b = (digit 0 ≤ b) × (b ≤ digit 9)
+
+pub numeral-digits : (n : ℕ) → All IsDigit (numeral n)
+numeral-digits = numeral-by (λ n. All IsDigit) (λ d h. also (omega arith, omega arith) none) (λ n d ds p h a. all-both a (also (omega arith, omega arith) none))
 
 -- from n + 1 on it is all the same how many digits there may be
 enough : (n : ℕ) (f : ℕ) → n < f → lastDigits f n ≡ numeral n

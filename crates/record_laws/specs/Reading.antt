@@ -43,6 +43,13 @@ token-reads (pos (suc n)) i =
 token-reads (negsuc n) i =
     ap (negative i) (sym (append-nil (numeral (suc n)))) ∙ reads-numeral (negative i) true (i + 1) (leading-one true (i + 1)) (suc n) [] (omega arith)
 
+-- so equal digits are those of one number
+pub numeral-apart : (m n : ℕ) → numeral m ≡ numeral n → m ≡ n
+unfolding token
+numeral-apart m n e =
+    let q : Number (pos m) ≡ Number (pos n) = sym (token-reads (pos m) 0) ∙ ap (contentFrom 0) e ∙ token-reads (pos n) 0 in
+    cc
+
 -- and with spaces before it
 pub number-reads : (k i : ℕ) (z : ℤ) → contentFrom i (replicate k space ++ token z) ≡ Number z
 unfolding contentFrom
