@@ -21,6 +21,7 @@ module _ {A : Type 0} {Good Bad : A → Type 0} (apart : (x : A) → Good x → 
 
   -- there is none where all are good
   pub all_first : {l : List A} {x : A} → All Good l → First Good Bad l x → ⊥
+  all_first none x = elim x [ ]
   all_first (also g a) (this b) = apart _ g b
   all_first (also g a) (later h f) = all_first a f
 
@@ -32,6 +33,7 @@ Has l a = Memᴰ a l
 
 module _ {A : Type 0} {P : A → Type 0} where
   pub all_has : {l : List A} {a : A} → All P l → Has l a → P a
+  all_has none m = elim m [ ]
   all_has (also p h) (Memᴰ.head e) = subst P (sym e) p
   all_has (also p h) (Memᴰ.tail m) = all_has h m
 
@@ -81,7 +83,7 @@ below_next P n f p i h =
     ⊎_elim (λ e. subst P (sym e) p) (f i) (eq-or-lt_of_le l)
 
 module _ {A B : Type 0} (f : A → List B) where
-  pub has_gather : {l : List A} {a : A} {b : B} → Has l a → Has (f a) b → Has (gather f l) b
+  pub has_gather : {a : A} {l : List A} {b : B} → Has l a → Has (f a) b → Has (gather f l) b
   unfolding gather
   has_gather {b = b} (Memᴰ.head {xs = l} e) k = Memᴰ.append_left (gather f l) (subst (λ c. Has (f c) b) e k)
   has_gather (Memᴰ.tail {x = c} m) k = Memᴰ.append_right (f c) (has_gather m k)
@@ -126,7 +128,7 @@ unfoldable pub all_of : {A : Type 0} → (A → Bool) → List A → Bool
 all_of t [] = true
 all_of t (a ∷ l) = t a && all_of t l
 
-pub holds_all : {A : Type 0} (t : A → Bool) {l : List A} {a : A} → all_of t l ≡ true → Has l a → t a ≡ true
+pub holds_all : {A : Type 0} (t : A → Bool) {a : A} {l : List A} → all_of t l ≡ true → Has l a → t a ≡ true
 unfolding all_of
 holds_all t e (Memᴰ.head {x = b} {xs = l} h) = ap t h ∙ ((and-eq-true_iff (t b) (all_of t l)).0 e).0
 holds_all t e (Memᴰ.tail {x = b} {xs = l} m) = holds_all t ((and-eq-true_iff (t b) (all_of t l)).0 e).1 m
