@@ -6,7 +6,7 @@ ghost use Rattle.answers.specs.Answers.{is_taken, number_of, third_of, numbers, 
 use items::PlaceNo;
 
 // What a record is answered; with a field, counted from 1, where one is named, and for a field that is misspelled the place of its bad byte in the record.
-#[derive(Drop)]
+#[derive(Clone, Copy)]
 pub enum Answer {
     Taken,
     NotARecord,
@@ -23,7 +23,7 @@ pub enum Answer {
 }
 
 // The answer of a judgement, one for each result of document 01.
-#[derive(Drop)]
+#[derive(Clone, Copy)]
 pub enum Judgement {
     // 0
     Accepted,
@@ -42,7 +42,7 @@ pub enum Judgement {
 }
 
 // What filling in the marks tells.
-#[derive(Drop)]
+#[derive(Clone, Copy)]
 pub enum Filling {
     // 0: every sentence is marked, at every place, as it is there
     Marked,
@@ -53,7 +53,7 @@ pub enum Filling {
 }
 
 // What finding the rounds tells that a loop may have.
-#[derive(Drop)]
+#[derive(Clone, Copy)]
 pub enum Span {
     // 0: the least and the greatest that are accepted
     Between(u32, u32),
@@ -64,7 +64,7 @@ pub enum Span {
 }
 
 // What setting a loop's rounds tells.
-#[derive(Drop)]
+#[derive(Clone, Copy)]
 pub enum Setting {
     // 0: they are set
     Set,
@@ -77,7 +77,7 @@ pub enum Setting {
 }
 
 // What writing a case back tells.
-#[derive(Drop)]
+#[derive(Clone, Copy)]
 pub enum Written {
     // 0: all of it, in so many bytes
     All(usize),
@@ -86,7 +86,7 @@ pub enum Written {
 }
 
 // The three numbers of an answer: the result, then where, then what.
-#[derive(Drop)]
+#[derive(Clone, Copy)]
 pub struct Told {
     pub result: usize,
     pub second: usize,

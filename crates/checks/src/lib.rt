@@ -11,7 +11,7 @@ use record::{Content, Record};
 use table::{Range, Rule, Shape, Sort};
 
 // What can be wrong with a field.
-#[derive(Drop)]
+#[derive(Clone, Copy)]
 pub enum Fault {
     Misspelled,
     Missing,
@@ -21,7 +21,7 @@ pub enum Fault {
 }
 
 // What the head of a record says: its kind, or why it is refused.
-#[derive(Drop)]
+#[derive(Clone, Copy)]
 pub enum Head {
     Of(Kind),
     Refused(Answer),

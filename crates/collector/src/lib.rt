@@ -17,7 +17,7 @@ use standing::Loops;
 
 // A case: the items of each kind and how many there are, and what follows from them and is kept beside them: the last loop, and what a round of each
 // closed loop adds to each counter, with the loop's first place.
-#[derive(Drop)]
+#[derive(Clone, Copy)]
 pub struct Case {
     pub count: Counts,
     pub loops: Loops,
@@ -31,14 +31,14 @@ pub struct Case {
 }
 
 // What taking a record hands back.
-#[derive(Drop)]
+#[derive(Clone, Copy)]
 pub struct Result {
     pub case: Case,
     pub answer: Answer,
 }
 
 // What taking the records of a file hands back: the last answer, and how many records were taken before it.
-#[derive(Drop)]
+#[derive(Clone, Copy)]
 pub struct Collected {
     pub case: Case,
     pub answer: Answer,

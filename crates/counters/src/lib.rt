@@ -9,7 +9,7 @@ ghost use Rattle.counters.specs.Sum.{sum};
 use kinds::PerCounter;
 
 // A value for each counter.
-#[derive(Drop)]
+#[derive(Clone, Copy)]
 pub struct Counters {
     pub at: [i64; PerCounter::COUNT],
 }

@@ -15,20 +15,20 @@ use rounds::Row;
 use tables::Tables;
 
 // A case whose marks are to be filled in.
-#[derive(Drop)]
+#[derive(Clone, Copy)]
 pub struct Draft {
     pub case: Case,
 }
 
 // What filling in the marks hands back: the case with its marks, or as it was.
-#[derive(Drop)]
+#[derive(Clone, Copy)]
 pub struct Filled {
     pub case: Case,
     pub answer: Filling,
 }
 
 // Marks for each place.
-#[derive(Drop)]
+#[derive(Clone, Copy)]
 struct Marks {
     at: [u32; Case::PLACES],
 }

@@ -20,7 +20,7 @@ use tables::Tables;
 use verdict::{Rounds, Throughout};
 
 // What a search found: the place, and the number of the move, the guard or the sentence.
-#[derive(Drop)]
+#[derive(Clone, Copy)]
 pub enum Search {
     Nowhere,
     At(PlaceNo, u8),

@@ -8,33 +8,33 @@ use kinds::PerCounter;
 use record::{Content, Record};
 
 // A reference to an item, or none.
-#[derive(Drop)]
+#[derive(Clone, Copy)]
 pub enum Ref {
     None,
     At(u8),
 }
 
 // A state: the propositions that hold in it, as a bit set.
-#[derive(Drop)]
+#[derive(Clone, Copy)]
 pub struct State {
     pub propositions: u16,
 }
 
 // Starting weights (the initial valuation): each counter at the start, as wide as counters are.
-#[derive(Drop)]
+#[derive(Clone, Copy)]
 pub struct Weights {
     pub at: [i64; PerCounter::COUNT],
 }
 
 // A guard: the sum of coefficient times counter is at least the bound.
-#[derive(Drop)]
+#[derive(Clone, Copy)]
 pub struct Guard {
     pub coefficients: PerCounter,
     pub bound: i32,
 }
 
 // A move (a transition) between two states: what it adds to each counter, and up to two guards.
-#[derive(Drop)]
+#[derive(Clone, Copy)]
 pub struct Move {
     pub from: u8,
     pub to: u8,
@@ -44,14 +44,14 @@ pub struct Move {
 }
 
 // A term of an until: a coefficient for each moment at which the sentence is true.
-#[derive(Drop)]
+#[derive(Clone, Copy)]
 pub enum Term {
     None,
     Some { coefficient: i16, sentence: u8 },
 }
 
 // The forms of sentences.
-#[derive(Drop)]
+#[derive(Clone, Copy)]
 pub enum Form {
     True,
     Proposition(u8),
@@ -69,13 +69,13 @@ pub enum Form {
 }
 
 // A sentence (a CLTL formula). (An array of enums can be no field of a struct, so a sentence is a struct that holds one.)
-#[derive(Drop)]
+#[derive(Clone, Copy)]
 pub struct Sentence {
     pub form: Form,
 }
 
 // Whether a place begins a loop, and which.
-#[derive(Drop)]
+#[derive(Clone, Copy)]
 pub enum LoopMark {
     None,
     Counted { length: u8, rounds: u32, back: u8 },
@@ -83,7 +83,7 @@ pub enum LoopMark {
 }
 
 // A place (a state of the path schema): its state, the move into it, the sentences that it marks as true (the labelling), its loop mark.
-#[derive(Drop)]
+#[derive(Clone, Copy)]
 pub struct Place {
     pub state: u8,
     pub way: Ref,
@@ -92,11 +92,11 @@ pub struct Place {
 }
 
 // The number of a place, counted from 0.
-#[derive(Drop)]
+#[derive(Clone, Copy)]
 pub struct PlaceNo(pub usize);
 
 // How many items of each kind a case has room for: constants alone.
-#[derive(Drop)]
+#[derive(Clone, Copy)]
 pub struct Room {}
 
 impl Room {

@@ -8,7 +8,7 @@ use record::Content;
 
 // The kinds of records: states, starting weights (the initial valuation), guards, moves (transitions), sentences (CLTL formulas) and places (states of
 // the path schema).
-#[derive(Drop)]
+#[derive(Clone, Copy)]
 pub enum Kind {
     State,
     Weights,
@@ -19,14 +19,14 @@ pub enum Kind {
 }
 
 // What a kind letter says.
-#[derive(Drop)]
+#[derive(Clone, Copy)]
 pub enum Letter {
     Names(Kind),
     Unknown,
 }
 
 // How many items of each kind a case holds.
-#[derive(Drop)]
+#[derive(Clone, Copy)]
 pub struct Counts {
     pub states: usize,
     pub weights: usize,
@@ -37,7 +37,7 @@ pub struct Counts {
 }
 
 // A number for each counter.
-#[derive(Drop)]
+#[derive(Clone, Copy)]
 pub struct PerCounter {
     pub at: [i16; PerCounter::COUNT],
 }

@@ -14,13 +14,13 @@ use collector::Case;
 use items::{LoopMark, Place};
 
 // A case, of whose plan a loop is looked at or altered.
-#[derive(Drop)]
+#[derive(Clone, Copy)]
 pub struct Plan {
     pub case: Case,
 }
 
 // What setting a loop's rounds hands back: the case with them, or as it was.
-#[derive(Drop)]
+#[derive(Clone, Copy)]
 pub struct Planned {
     pub case: Case,
     pub answer: Setting,

@@ -21,7 +21,7 @@ use tables::{Firsts, Tables};
 use verdict::{Rounds, Throughout};
 
 // A sentence that is off, with its row; where none is, the number after the last sentence.
-#[derive(Drop)]
+#[derive(Clone, Copy)]
 pub struct Off {
     pub sentence: usize,
     pub row: Row,

@@ -14,21 +14,21 @@ use collector::Case;
 use items::LoopMark;
 
 // What each place does to the best sum of the next: what stopping there gives, and what going on from there adds.
-#[derive(Drop)]
+#[derive(Clone, Copy)]
 pub struct Steps {
     pub stops: [i64; Case::PLACES],
     pub goes: [i64; Case::PLACES],
 }
 
 // A round of a loop: the best within it, and the sum of all its places.
-#[derive(Drop)]
+#[derive(Clone, Copy)]
 pub struct Round {
     pub within: i64,
     pub sum: i64,
 }
 
 // The best sums at a place: in its first round and in its last.
-#[derive(Drop)]
+#[derive(Clone, Copy)]
 pub struct Ends {
     pub first: i64,
     pub last: i64,

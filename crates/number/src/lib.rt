@@ -2,7 +2,7 @@
 ghost use Rattle.number.specs.Numbers.{ReadRightly};
 
 // What bytes say: a number of at most LONGEST digits, or none.
-#[derive(Drop)]
+#[derive(Clone, Copy)]
 pub enum Number {
     Is(usize),
     Not,

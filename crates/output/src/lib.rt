@@ -7,7 +7,7 @@ ghost use Rattle.output.specs.Line.{line_of, longest, holding, pushed, with_byte
 use answers::Told;
 
 // A line: its bytes are the first, as many as the count says.
-#[derive(Drop)]
+#[derive(Clone, Copy)]
 pub struct Line {
     pub bytes: [u8; Line::MOST],
     pub count: usize,

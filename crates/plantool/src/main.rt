@@ -10,7 +10,7 @@ use number::Number;
 use tool::MOST;
 
 // A word of the tool, with its numbers.
-#[derive(Drop)]
+#[derive(Clone, Copy)]
 enum Word {
     Fill,
     // of a loop
@@ -25,7 +25,7 @@ impl Word {
 }
 
 // What the arguments ask for.
-#[derive(Drop)]
+#[derive(Clone, Copy)]
 enum Asked {
     For(Word),
     Nothing,

@@ -4,7 +4,7 @@ ghost use Rattle.record.specs.Spelling.{space, content_of, content_from, leading
 ghost use Rattle.record.specs.Layout.{width, record_length, record_of};
 
 // What a field says; where it is neither blank nor a number, which of its bytes is bad, counted from 0.
-#[derive(Drop)]
+#[derive(Clone, Copy)]
 pub enum Content {
     Blank,
     Number(i32),
@@ -12,13 +12,13 @@ pub enum Content {
 }
 
 // A field of a record. (An array of enums can be no field of a struct, so a field is a struct that holds one.)
-#[derive(Drop)]
+#[derive(Clone, Copy)]
 pub struct Field {
     pub content: Content,
 }
 
 // The fields of a record, in order.
-#[derive(Drop)]
+#[derive(Clone, Copy)]
 pub struct Record {
     pub fields: [Field; Record::FIELDS],
 }

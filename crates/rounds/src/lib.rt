@@ -15,7 +15,7 @@ use items::{LoopMark, Room};
 use verdict::{Course, Rounds, Side, Throughout, Trend};
 
 // What a sentence is over the rounds of each place, as a code (0 past the places that are held), and whether its mark is another at some place.
-#[derive(Drop)]
+#[derive(Clone, Copy)]
 pub struct Row {
     pub at: [u8; Room::PLACES],
     pub off: bool,

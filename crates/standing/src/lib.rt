@@ -15,7 +15,7 @@ use kinds::{Counts, Kind};
 use record::Record;
 
 // The last loop so far: its first place and the place after it (both 0 where there is no loop), and whether it is endless. It follows from the places.
-#[derive(Drop)]
+#[derive(Clone, Copy)]
 pub struct Loops {
     pub first: PlaceNo,
     pub end: PlaceNo,

@@ -10,7 +10,7 @@ use kinds::{Kind, PerCounter};
 use record::Record;
 
 // What the number in a field is: one within a range, a set of marks, or a reference to an item.
-#[derive(Drop)]
+#[derive(Clone, Copy)]
 pub enum Sort {
     Within(Range),
     Marks,
@@ -18,7 +18,7 @@ pub enum Sort {
 }
 
 // What a field must be.
-#[derive(Drop)]
+#[derive(Clone, Copy)]
 pub enum Rule {
     Blank,
     Needed(Sort),
@@ -26,7 +26,7 @@ pub enum Rule {
 }
 
 // The numbers from low to high.
-#[derive(Drop)]
+#[derive(Clone, Copy)]
 pub struct Range {
     pub low: i32,
     pub high: i32,
@@ -69,13 +69,13 @@ impl Sort {
 }
 
 // Which fields are filled: 1 for a field that is, 0 for any other. (Eight bools would be packed into one word, which costs more.)
-#[derive(Drop)]
+#[derive(Clone, Copy)]
 pub struct Filled {
     pub at: [u32; Record::FIELDS],
 }
 
 // What decides the rules of a record's fields.
-#[derive(Drop)]
+#[derive(Clone, Copy)]
 pub struct Shape {
     pub kind: Kind,
     pub form: u32,

@@ -10,19 +10,19 @@ use collector::Case;
 use counters::Counters;
 
 // The first place of the stretch of each place that is held.
-#[derive(Drop)]
+#[derive(Clone, Copy)]
 pub struct Firsts {
     pub at: [u8; Case::PLACES],
 }
 
 // A value for each counter, at each place.
-#[derive(Drop)]
+#[derive(Clone, Copy)]
 pub struct Table {
     pub at: [Counters; Case::PLACES],
 }
 
 // What is known of each place.
-#[derive(Drop)]
+#[derive(Clone, Copy)]
 pub struct Tables {
     pub firsts: Firsts,
     pub bases: Table,

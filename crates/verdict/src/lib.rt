@@ -1,7 +1,7 @@
 // The answer of a judgement as a computation whose cost doesn't depend on the number of rounds. Definitions stand in specs/; here are their types.
 
 // Whether something is true in every round of a place, in none, or in some only.
-#[derive(Drop)]
+#[derive(Clone, Copy)]
 pub enum Throughout {
     Always,
     Never,
@@ -9,7 +9,7 @@ pub enum Throughout {
 }
 
 // Rounds, counted from 0: none, those up to a last one, or all.
-#[derive(Drop)]
+#[derive(Clone, Copy)]
 pub enum Rounds {
     None,
     UpTo(u32),
@@ -17,7 +17,7 @@ pub enum Rounds {
 }
 
 // How a sum goes with each round.
-#[derive(Drop)]
+#[derive(Clone, Copy)]
 pub enum Trend {
     Rises,
     Stays,
@@ -25,14 +25,14 @@ pub enum Trend {
 }
 
 // On which side of its bound a sum is the first time that it is tested.
-#[derive(Drop)]
+#[derive(Clone, Copy)]
 pub enum Side {
     AtOrAbove,
     Below,
 }
 
 // How the truth of a guard goes over rounds without end: the same every time, or first one and then the other.
-#[derive(Drop)]
+#[derive(Clone, Copy)]
 pub enum Course {
     AlwaysTrue,
     AlwaysFalse,
