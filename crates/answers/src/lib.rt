@@ -1,5 +1,7 @@
 // Every answer of the checker: to a record, of a judgement, of filling in the marks, of a loop's rounds and of writing a case back; with the three numbers that the documents have
 // for it.
+#![tactic(auto)]
+
 ghost use Rattle.std.specs.Prelude.{◌≡◌};
 ghost use Rattle.answers.specs.Answers.{is_taken, number_of, third_of, numbers, numbers_of, filling_numbers, span_numbers, is_set, setting_numbers, written_numbers};
 

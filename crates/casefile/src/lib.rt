@@ -1,4 +1,6 @@
 // A whole case file: what it is answered. Its definitions, the demands and their theorems stand in specs/.
+#![tactic(auto)]
+
 ghost use Rattle.std.specs.Prelude.{◌≡◌, take};
 ghost use Rattle.answers.specs.Answers.{refusal};
 ghost use Rattle.casefile.specs.Answer.{answer_of};

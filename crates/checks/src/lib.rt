@@ -1,4 +1,6 @@
 // What can be wrong with a field, and the results that come from the input (11 to 16).
+#![tactic(auto)]
+
 ghost use Rattle.std.specs.Prelude.{◌≡◌, ◌^◌, ◌≤◌};
 ghost use Rattle.record.specs.Layout.{fields};
 ghost use Rattle.kinds.specs.Contents.{is_blank};

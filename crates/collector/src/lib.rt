@@ -1,4 +1,6 @@
 // A case, and its collector: a record's bytes become the next item of their kind, or are refused and nothing changes.
+#![tactic(auto)]
+
 ghost use Rattle.std.specs.Prelude.{◌≡◌, cond, ◌+◌, ◌-◌, ◌≤◌, ◌<◌, min};
 ghost use Rattle.record.specs.Layout.{record_length};
 ghost use Rattle.kinds.specs.declared.Kind.TheVariants as kind;

@@ -1,4 +1,6 @@
 // A value for each counter: the numbers of an item more, n times another more, and the sum of coefficient times counter.
+#![tactic(auto)]
+
 ghost use Rattle.std.specs.Prelude.{◌≡◌, ℕ, ◌+◌, ◌*◌, ◌≤◌, ◌<◌, ◌^◌, pos, ◌+ℤ◌, ◌*ℤ◌};
 ghost use Rattle.laws.specs.Sizes.{size};
 ghost use Rattle.kinds.specs.Kinds.{counters};

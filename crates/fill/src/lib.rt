@@ -1,4 +1,6 @@
 // The marks of a case filled in: the case with the right ones, whatever its own, or why there are none.
+#![tactic(auto)]
+
 ghost use Rattle.std.specs.Prelude.{◌≡◌, ◌+◌, ◌*◌, ◌≤◌, ◌<◌, ◌^◌, get_or};
 ghost use Rattle.laws.specs.Tab.{tab};
 ghost use Rattle.kinds.specs.declared.Kind.TheVariants as kind;

@@ -1,4 +1,6 @@
 // A guard over rounds, for those on ways and those of sentences alike, the row of a sentence of a guard, and what a search found.
+#![tactic(auto)]
+
 ghost use Rattle.std.specs.Prelude.{◌≡◌, cond, ◌+◌, ◌<◌, ◌^◌, pos, ◌+ℤ◌};
 ghost use Rattle.laws.specs.Sizes.{size};
 ghost use Rattle.rules.specs.Rules.{Closed};

@@ -1,4 +1,6 @@
 // An open file, as standard input, read into a lent buffer: what the programs share. No contract can say what a call of the system reads.
+#![tactic(auto)]
+
 ghost use Rattle.io.specs.Counts.{IsPrefixLen};
 
 use libc::{EINTR, STDIN_FILENO};

@@ -1,4 +1,6 @@
 // The items of a case, and what a record's fields become.
+#![tactic(auto)]
+
 ghost use Rattle.std.specs.Prelude.{◌≡◌, ◌+◌, ◌≤◌, ◌<◌};
 ghost use Rattle.record.specs.Layout.{at, fields};
 ghost use Rattle.kinds.specs.Kinds.{counters};

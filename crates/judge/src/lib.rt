@@ -1,4 +1,6 @@
 // The judgement of a case: 24 and 31 to 35, each the first that applies.
+#![tactic(auto)]
+
 ghost use Rattle.std.specs.Prelude.{◌≡◌, ◌&&◌, ltb};
 ghost use Rattle.standing.specs.Standing.{is_closed};
 ghost use Rattle.collector.specs.Cases.{items_of};

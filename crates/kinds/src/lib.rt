@@ -1,4 +1,6 @@
 // The kinds of records, how many items of each there are, and what a field's content says alone.
+#![tactic(auto)]
+
 ghost use Rattle.std.specs.Prelude.{◌≡◌, cond, ◌<◌, ◌^◌, ltb};
 ghost use Rattle.kinds.specs.Kinds.{letter_of, kind_of, rank_of, same, count_of, counts_by, counts_total};
 ghost use Rattle.kinds.specs.Last.{kind_at, last_rank};

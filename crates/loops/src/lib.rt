@@ -1,4 +1,6 @@
 // The loops of a case by their numbers, in plan order: the rounds of one with which the case is accepted, and its rounds set.
+#![tactic(auto)]
+
 ghost use Rattle.std.specs.Prelude.{◌≡◌, ◌<◌, length};
 ghost use Rattle.laws.specs.Halving.{is_next};
 ghost use Rattle.rules.specs.Rules.{mark_at};

@@ -1,4 +1,6 @@
 // What each sentence is over the rounds of each place, by the marks of the sentences below; and the first wrong mark: the marks against that.
+#![tactic(auto)]
+
 ghost use Rattle.std.specs.Prelude.{◌≡◌, cond, suc, ◌+◌, ◌≤◌, ◌<◌, leb};
 ghost use Rattle.kinds.specs.declared.Kind.TheVariants as kind;
 ghost use Rattle.collector.specs.Cases.{items_of};

@@ -1,6 +1,8 @@
 // The best sums of an until over the places of a plan, as numbers: a sum is itself, no sum is a number far below every sum, and sums without end are one
 // far above. So a step is a sum and a maximum (max-plus). Each function is a definition of specs/Numbers.antt; specs/Shows.antt says that the numbers
 // show what verdict's specs/Best.antt computes.
+#![tactic(auto)]
+
 ghost use Rattle.std.specs.Prelude.{◌≡◌, ◌+◌, ◌≤◌, ◌<◌, ◌^◌};
 ghost use Rattle.laws.specs.Sizes.{size};
 ghost use Rattle.kinds.specs.declared.Kind.TheVariants as kind;

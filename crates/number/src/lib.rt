@@ -1,4 +1,6 @@
 // A number that is given to a program: its decimal digits, and nothing else.
+#![tactic(auto)]
+
 ghost use Rattle.number.specs.Numbers.{ReadRightly};
 
 // What bytes say: a number of at most LONGEST digits, or none.

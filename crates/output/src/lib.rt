@@ -1,4 +1,6 @@
 // The line that the program prints: three numbers with single spaces, and a line feed.
+#![tactic(auto)]
+
 ghost use Rattle.std.specs.Prelude.{◌≡◌, ◌+◌, ◌%◌, ◌≤◌, ◌<◌, length};
 ghost use Rattle.record.specs.Spelling.{digit};
 ghost use Rattle.record.specs.Spell.{numeral};

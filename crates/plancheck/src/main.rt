@@ -1,5 +1,7 @@
 // Judges case files and prints the line of each: that of the case on standard input, or where there are arguments, those of the files that they name,
 // each with its name. No contract can say what a call of the system reads or writes, so the program only reads, calls the library and writes.
+#![tactic(auto)]
+
 ghost use Rattle.std.specs.Prelude.{◌≡◌, ◌++◌, ◌+◌, ◌≤◌, length, take};
 ghost use Rattle.io.specs.Counts.{IsPrefixLen};
 ghost use Rattle.casefile.specs.Answer.{answer_of};

@@ -1,5 +1,7 @@
 // Prints what a word of the tool says of a case: the word is the first argument, its numbers are those after it, and the case stands on standard input.
 // No contract can say what a call of the system reads or writes, so the program only reads, calls the library and writes.
+#![tactic(auto)]
+
 ghost use Rattle.std.specs.Prelude.{◌≡◌, take};
 ghost use Rattle.io.specs.Counts.{IsPrefixLen};
 ghost use Rattle.plantool.specs.Words.{AskedRightly, printed};

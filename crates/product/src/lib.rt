@@ -1,4 +1,6 @@
 // What a word of the tool prints, in the caller's buffer: a line of three numbers, and where a case was made, its file after it.
+#![tactic(auto)]
+
 ghost use Rattle.std.specs.Prelude.{◌≡◌, ◌++◌, ◌≤◌, length, take, drop};
 ghost use Rattle.output.specs.Line.{line_of, longest};
 ghost use Rattle.collector.specs.Cases.{items_of};

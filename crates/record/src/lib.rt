@@ -1,4 +1,6 @@
 // A record of a case file: a kind letter, eight fields of seven bytes and a line feed.
+#![tactic(auto)]
+
 ghost use Rattle.std.specs.Prelude.{◌≡◌, ◌+◌, ◌≤◌, ◌<◌, ◌^◌, length, drop, get_or};
 ghost use Rattle.record.specs.Spelling.{space, content_of, content_from, leading, digits};
 ghost use Rattle.record.specs.Layout.{width, record_length, record_of};

@@ -1,4 +1,6 @@
 // The record of an item, written at the start of a lent part: all of it blank first, then each number over its field.
+#![tactic(auto)]
+
 ghost use Rattle.std.specs.Prelude.{◌≡◌, ◌∷◌, [], ◌++◌, map, ◌+◌, ◌≤◌, ◌<◌, ◌^◌, pos, length, drop, replicate};
 ghost use Rattle.record.specs.declared.Content.TheVariants.{Number};
 ghost use Rattle.record.specs.Spell.{Spellable, numeral, token};

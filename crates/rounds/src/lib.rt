@@ -1,5 +1,7 @@
 // The rounds of a place, and what is true throughout them: a sum that grows by the same with each round, against a bound; a row of that over the places, and
 // a mark against it.
+#![tactic(auto)]
+
 ghost use Rattle.std.specs.Prelude.{◌≡◌, not, ◌||◌, ◌+◌, ◌-◌, ◌*◌, ◌<◌, ◌^◌};
 ghost use Rattle.laws.specs.Sizes.{size};
 ghost use Rattle.meaning.specs.Run.{stretch};

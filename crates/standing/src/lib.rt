@@ -1,4 +1,6 @@
 // Whether a record may stand after what is held: the results that come from the state (21 to 26), after those of its fields.
+#![tactic(auto)]
+
 ghost use Rattle.std.specs.Prelude.{◌≡◌, cond, ◌+◌, ◌≤◌, ◌<◌, ◌^◌, eqb};
 ghost use Rattle.kinds.specs.declared.Kind.TheVariants as kind;
 ghost use Rattle.kinds.specs.Kinds.{count_of};

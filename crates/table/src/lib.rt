@@ -1,4 +1,6 @@
 // What each kind of record needs, may have and allows in each field.
+#![tactic(auto)]
+
 ghost use Rattle.std.specs.Prelude.{◌≡◌, ◌||◌, ◌∷◌, ◌-◌, ◌<◌, replicate};
 ghost use Rattle.laws.specs.Lists.{nth};
 ghost use Rattle.kinds.specs.Kinds.{counters};

@@ -1,4 +1,6 @@
 // What judging knows of each place of a plan: the first place of its stretch, and the counters in its first round.
+#![tactic(auto)]
+
 ghost use Rattle.std.specs.Prelude.{◌≡◌};
 ghost use Rattle.counters.specs.Vectors.{vec_of};
 ghost use Rattle.collector.specs.Cases.{items_of};

@@ -1,4 +1,6 @@
 // The answer to a file, what is held of it, and what is held written back, for tests and benchmarks in other languages.
+#![tactic(auto)]
+
 ghost use Rattle.std.specs.Prelude.{◌≡◌, length};
 ghost use Rattle.answers.specs.Answers.{written_numbers};
 ghost use Rattle.collector.specs.Cases.{empty_case};

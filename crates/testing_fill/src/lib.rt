@@ -1,4 +1,6 @@
 // What is held of a file filled, for tests and benchmarks in other languages. It is apart from `testing`, so that judging is measured as the program has it.
+#![tactic(auto)]
+
 ghost use Rattle.std.specs.Prelude.{◌≡◌, length};
 ghost use Rattle.answers.specs.Answers.{written_numbers};
 ghost use Rattle.collector.specs.Cases.{empty_case};

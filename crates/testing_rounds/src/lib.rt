@@ -1,5 +1,7 @@
 // A loop's rounds found and set in what is held of a file, for tests and benchmarks in other languages. It is apart from `testing` and `testing_fill`, so that judging and filling are
 // measured as the programs have them.
+#![tactic(auto)]
+
 ghost use Rattle.std.specs.Prelude.{◌≡◌, length};
 ghost use Rattle.answers.specs.Answers.{written_numbers};
 ghost use Rattle.writer.specs.Written.{written_of, buffer_after};

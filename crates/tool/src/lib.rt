@@ -1,4 +1,6 @@
 // What each word of the tool prints for a case file, in the caller's buffer.
+#![tactic(auto)]
+
 ghost use Rattle.std.specs.Prelude.{◌≡◌, ◌≤◌, length, take};
 ghost use Rattle.collector.specs.Sound.{Sound};
 ghost use Rattle.writer.specs.Written.{written_of, buffer_after};

@@ -1,4 +1,6 @@
 // The row of an until.
+#![tactic(auto)]
+
 ghost use Rattle.std.specs.Prelude.{◌≡◌};
 ghost use Rattle.collector.specs.Cases.{items_of};
 ghost use Rattle.collector.specs.Sound.{Sound};

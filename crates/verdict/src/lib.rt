@@ -1,4 +1,5 @@
 // The answer of a judgement as a computation whose cost doesn't depend on the number of rounds. Definitions stand in specs/; here are their types.
+#![tactic(auto)]
 
 // Whether something is true in every round of a place, in none, or in some only.
 #[derive(Clone, Copy)]

@@ -1,4 +1,6 @@
 // The ways of a plan: 32, the first that doesn't connect, and 33, the first guard that fails.
+#![tactic(auto)]
+
 ghost use Rattle.std.specs.Prelude.{◌≡◌, cond, not, ◌&&◌, eqb, ◌+◌, ◌-◌, ◌≤◌};
 ghost use Rattle.kinds.specs.declared.Kind.TheVariants as kind;
 ghost use Rattle.collector.specs.Cases.{items_of};

@@ -1,4 +1,6 @@
 // A case written back: every record into its own bytes of the lent buffer.
+#![tactic(auto)]
+
 ghost use Rattle.std.specs.Prelude.{◌≡◌, length};
 ghost use Rattle.items.specs.File.{file_of};
 ghost use Rattle.collector.specs.Cases.{items_of};
