@@ -4,10 +4,9 @@ use mathlib.Core.Bool.{Bool, true, false, ◌&&◌}
 use mathlib.Core.List.{List, ◌∷◌}
 use Prim.Native.Nat.{ℕ, ◌+◌, ◌-◌, ◌*◌, ◌<◌, ◌≤◌}
 use native.Mathlib.Numerals.{add-one}
-use lib.Dec.{ltb}
 use lib.ListN.{length, get_or, drop}
 use lib.Seq.{drop-cons}
-use borrow.Author.Tests.{ne_eqb, le-leb, lt-leb, ltb-true, ltb-false}
+use borrow.Author.Tests.{ne_eqb, le-leb, lt-leb}
 use Rattle.record.specs.declared.Content.TheVariants.{Bad}
 use Rattle.record.specs.Spelling.{space, minus, digit, digit_from, digits, leading, content_from}
 
@@ -16,8 +15,8 @@ pub rest : (p : List ℕ) (i : ℕ) {b : ℕ} → i < length p → get_or p i 0 
 rest p i h e = rw (add-one, drop-cons p i 0, e)
 
 -- a byte from the digit d to 9, one below, one above, as the code tests them
-pub is_digit : (d b : ℕ) → digit d ≤ b → ltb (digit 9) b ≡ false → digit_from d b ≡ true
-is_digit d b l h = simp (le-leb (digit d) b l, le-leb b (digit 9) (ltb-false (digit 9) b h))
+pub is_digit : (d b : ℕ) → digit d ≤ b → b ≤ digit 9 → digit_from d b ≡ true
+is_digit d b l h = simp (le-leb (digit d) b l, le-leb b (digit 9) h)
 
 pub too_low : (d b : ℕ) → b < digit d → digit_from d b ≡ false
 too_low d b h = simp (lt-leb (digit d) b h)
@@ -26,8 +25,8 @@ and_false : (t : Bool) → t && false ≡ false
 and_false true = refl
 and_false false = refl
 
-pub too_high : (d b : ℕ) → ltb (digit 9) b ≡ true → digit_from d b ≡ false
-too_high d b h = simp (lt-leb b (digit 9) (ltb-true (digit 9) b h), and_false)
+pub too_high : (d b : ℕ) → digit 9 < b → digit_from d b ≡ false
+too_high d b h = simp (lt-leb b (digit 9) h, and_false)
 
 -- in a number: byte i is a digit, or none
 module _ (s : Bool) (n : ℕ) (p : List ℕ) (i : ℕ) (h : i < length p) where
