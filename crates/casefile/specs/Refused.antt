@@ -29,7 +29,7 @@ module _ (ps rs : List (List ℕ)) (b : List ℕ) where
       record {
         there = omega (arith, r.there);
         before =
-            λ j. elim j [
+            elim [
               | zero ↦ λ h. subst (λ l. (w : Answer) → Applies (spelled_by l) b w → ⊥) (sym (append-nil ps)) none
               | suc i ↦ λ h. subst (λ l. (w : Answer) → Applies (spelled_by l) (get_or rs i []) w → ⊥) (append_snoc ps b (take i rs)) (r.before i (omega arith))
             ];

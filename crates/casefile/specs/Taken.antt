@@ -2,7 +2,7 @@
 -- where the file is accepted; and where the result is 14, which byte it names. Assumes nothing.
 use Rattle.std.specs.Prelude.{◌≡◌, refl, ◌↔◌, List, [], map, true, cond, ℕ, eqb, get_or}
 use Rattle.std.proofs.Common.{◌∙◌, sym, ap, subst, ⊎_elim, true≢false, arith, eq-eqb}
-use Rattle.std.proofs.Math.Logic.{Iff·trans}
+use Rattle.std.proofs.Math.Logic.Iff
 use Rattle.laws.specs.Lowest.{lowest}
 use Rattle.record.specs.Layout.{cut}
 use Rattle.kinds.specs.declared.Kind.{Kind}
@@ -101,7 +101,7 @@ module _ (bs : List ℕ) (h : AllTaken (cut bs)) where
 
   -- and so is the result 0
   pub accepts_means : Finished x → ((answer_of bs).result ≡ 0) ↔ Means x θ
-  accepts_means f = Iff·trans taken_accepts (taken_means f)
+  accepts_means f = Iff.trans taken_accepts (taken_means f)
 
 -- ---- any file
 

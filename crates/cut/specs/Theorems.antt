@@ -3,7 +3,7 @@
 -- have other numbers. Assumes nothing.
 use Rattle.std.specs.Prelude.{◌≡◌, ◌↔◌, List, ℕ, ◌≤◌, ◌<◌}
 use Rattle.std.proofs.Common.{sym, ap, subst, arith}
-use Rattle.std.proofs.Math.Logic.{Iff·trans, Iff·symm}
+use Rattle.std.proofs.Math.Logic.Iff
 use Rattle.record.specs.Layout.{cut}
 use Rattle.kinds.specs.declared.Kind.TheVariants as kind
 use Rattle.counters.specs.Sum.{Valuation}
@@ -63,7 +63,7 @@ unfolding start_of
 judge_in_two c d s g p m h e =
     let own : Items → Type 0 = λ x. IsAccepted x (start_of x) in
     let same = subst (λ y. own (items_of c) ↔ own y) (sym e) (cut_in_two c s p m h (start_of (items_of c))) in
-    Iff·trans (accepts c s (start_of (items_of c))) (Iff·trans same (Iff·symm (accepts d g (start_of (items_of d)))))
+    Iff.trans (accepts c s (start_of (items_of c))) (Iff.trans same (Iff.symm (accepts d g (start_of (items_of d)))))
 
 -- ---- files
 
@@ -89,7 +89,7 @@ pub checker_in_two : (bs : List ℕ) → AllTaken (cut bs) → (p m : ℕ) → M
     Accepts bs ↔ Accepts (file_of (cut_at (spelled bs) p m))
 unfolding start_of
 checker_in_two bs t p m h f =
-    Iff·trans (checker_accepts bs) (Iff·trans both (Iff·symm (checker_accepts (file_of (cut_at (spelled bs) p m)))))
+    Iff.trans (checker_accepts bs) (Iff.trans both (Iff.symm (checker_accepts (file_of (cut_at (spelled bs) p m)))))
   where
     θ : Valuation
     θ = start_of (spelled bs)

@@ -130,6 +130,7 @@ pub record Stops (x : Items) (θ : Valuation) (i n : ℕ) (k : Mark) : Type 0 wh
 in_row : {P B : Mark → Type 0} (i s n : ℕ) {k : Mark} → First P B (map (mark_for i) (from s n)) k →
     B k × (k.sentence ≡ i) × (s ≤ k.place) × (k.place < s + n) × ((q : ℕ) → s ≤ q → q < k.place → P (mark_for i q))
 unfolding from
+in_row i s zero h = elim h [ ]
 in_row i s (suc n) (this b) = (b, refl, omega arith, omega arith, λ q h l. absurd (omega arith))
 in_row {P} i s (suc n) (later p h) =
     let (v, e, a, b, g) = in_row i (suc s) n h in

@@ -2,7 +2,7 @@
 use Rattle.std.specs.Prelude.{◌≡◌, ◌↔◌, ◌⊎◌, List, ◌++◌, Bool, true, false, cond, pos, negsuc, neg_ℤ, ◌≤ℤ◌}
 use Rattle.std.proofs.Math.Path.{refl, sym, ap₂}
 use Rattle.std.proofs.Common.{◌∙◌, ap, inl, inr, ⊎_elim, add_assoc, add-suc, add-zero, suc-add, zero-add}
-use Rattle.std.proofs.Math.Logic.{Iff·rfl}
+use Rattle.std.proofs.Math.Logic.Iff
 use Rattle.std.proofs.Math.Bool.{Bool-discrete}
 use Rattle.std.proofs.lemmas.Bool.{false≢true}
 use Prim.Native.Nat.{ℕ, zero, suc, ◌+◌, ◌-◌, ◌≤◌, ◌<◌}
@@ -263,8 +263,8 @@ adds_one c w z false told adds = (
 module _ (True : ℕ → Moment → Type 0) (mark : ℕ → Bool) (m : Moment) (i : ℕ) (told : (s : ℕ) → s < i → (mark s ≡ true) ↔ True s m) where
   adds_worth : (t : Term) → TermRefers i t → (z : ℤ) → Adds (counted_terms True t) m z ↔ (z ≡ worth mark t)
   unfolding Adds
-  adds_worth term.None p z = Iff·rfl
-  adds_worth (term.Some c s) p z = rw +ℤ_idr at (adds_one c (pos 0) z (mark s) (told s p) (λ y. Iff·rfl))
+  adds_worth term.None p z = Iff.rfl
+  adds_worth (term.Some c s) p z = rw +ℤ_idr at (adds_one c (pos 0) z (mark s) (told s p) (λ y. Iff.rfl))
 
   pub adds_gain : (t u : Term) → TermRefers i t → TermRefers i u → (z : ℤ) → Adds (counted_terms True t ++ counted_terms True u) m z ↔ (z ≡ gain_of mark t u)
   unfolding Adds gain_of

@@ -1,7 +1,7 @@
 -- Truth is decided at every moment, where the marks of the sentences below are right. Assumes nothing.
 use Rattle.std.specs.Prelude.{◌≡◌, refl, ◌↔◌, ◌⊎◌, Bool, true, false, ℕ, suc, ◌+◌, ◌≤◌, ◌<◌, length, get_or}
 use Rattle.std.proofs.Common.{sym, ◌∙◌, ap, inl, inr, ⊎_elim, arith}
-use Rattle.std.proofs.Math.Logic.{Iff·symm}
+use Rattle.std.proofs.Math.Logic.Iff
 use Rattle.std.proofs.lemmas.Bool.{false≢true}
 use Rattle.laws.specs.Arithmetic.{le_out, le_or}
 use Rattle.kinds.specs.declared.Kind.TheVariants as kind
@@ -66,7 +66,7 @@ module _ (x : Items) (facts : Facts x) (c : Closed x) (θ : Valuation) (i : ℕ)
   says_decided (form.Not a) r m = ⊎_elim (λ p. inr (λ n. n p)) inl (below_decided a r m)
   says_decided (form.Next a) r m = below_decided a r (suc m)
   says_decided (form.Until a b z t u) r m = let e = comes_again x facts.resolved.laid c in
-      iff_decided (Iff·symm (until_labels x θ i a b z t u r right m))
+      iff_decided (Iff.symm (until_labels x θ i a b z t u r right m))
       (gets_decided (λ k. label_of (marked x) a b t u (here (spot x.places k))) e.moment e.round e.long (λ j h. ap (label_of (marked x) a b t u) (e.same j h)) z m)
 
 pub decided : (x : Items) → Facts x → Closed x → (θ : Valuation) (i : ℕ) → i < length x.sentences

@@ -1,7 +1,7 @@
 -- Sentences at places, and guards on ways. Assumes nothing.
 use Rattle.std.proofs.Common.{subst}
 use Rattle.std.specs.Prelude.{◌↔◌, List, map, ℕ, ◌<◌}
-use Rattle.std.proofs.Math.Logic.{Iff·trans}
+use Rattle.std.proofs.Math.Logic.Iff
 use mathlib.Core.List.Memᴰ
 use Rattle.laws.specs.All.{All, from, gather}
 use Rattle.laws.specs.Members.{Has, all_has, has_all, has_below, all_pairs}
@@ -28,7 +28,7 @@ grid s n = gather (λ i. map (mark_for i) (from 0 n)) (from 0 s)
 
 pub all_grid : {P : Mark → Type 0} (s n : ℕ) → All P (grid s n) ↔ ((i p : ℕ) → i < s → p < n → P (mark_for i p))
 all_grid s n =
-    Iff·trans (all_pairs mark_for (λ i. from 0 n) (from 0 s))
+    Iff.trans (all_pairs mark_for (λ i. from 0 n) (from 0 s))
     (λ f i p g h. f i p ((has_below s i).1 g) ((has_below n p).1 h), λ f i p g h. f i p ((has_below s i).0 g) ((has_below n p).0 h))
 
 -- every guard of every way

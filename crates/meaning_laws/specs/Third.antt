@@ -3,7 +3,7 @@
 use Rattle.std.specs.Prelude.{◌≡◌, ◌↔◌, List, ◌++◌, true, ℤ, pos, neg_ℤ, ◌≤ℤ◌, length, get_or}
 use Rattle.std.proofs.Math.Path.{refl, ap, ap₂}
 use Rattle.std.proofs.Common.{sym, ◌∙◌, subst, inl, inr, ⊎_elim}
-use Rattle.std.proofs.Math.Logic.{Iff·trans, Iff·symm, Iff·and, Iff·not}
+use Rattle.std.proofs.Math.Logic.Iff
 use Prim.Native.Nat.{ℕ, zero, suc, ◌+◌, ◌-◌, ◌≤◌, ◌<◌}
 use Rattle.std.proofs.Math.Decide.{dec_lt}
 use native.Mathlib.Omega.{arith}
@@ -161,11 +161,11 @@ module _ (x : Items) (f : Facts x) (s l n back : ℕ) (held : s < length x.place
     by_places : (i : ℕ) (F : ℕ → ℕ → Type 0) (B C : Moment → Type 0)
         → ((m : Moment) → F (here (spot (P b) m)) (here (spot (P b) (suc m))) ↔ B m) → ((m : Moment) → F (here (spot (P c) m)) (here (spot (P c) (suc m))) ↔ C m)
         → Told c i C → Told b i B
-    by_places i F B C hb hc h m = Iff·trans (elim (dec_lt (suc m) (left P r b)) [ yes g ↦ early g | no g ↦ late (omega arith) ]) (hb m)
+    by_places i F B C hb hc h m = Iff.trans (elim (dec_lt (suc m) (left P r b)) [ yes g ↦ early g | no g ↦ late (omega arith) ]) (hb m)
       where
         from_c : (j p q : ℕ) → here (spot (P c) j) ≡ p → here (spot (P c) (suc j)) ≡ q → (marked x i p ≡ true) ↔ F p q
         from_c j p q u v =
-            subst (λ z. (marked x i p ≡ true) ↔ F p z) v (subst (λ z. (marked x i z ≡ true) ↔ F z (here (spot (P c) (suc j)))) u (Iff·trans (h j) (Iff·symm (hc j))))
+            subst (λ z. (marked x i p ≡ true) ↔ F p z) v (subst (λ z. (marked x i z ≡ true) ↔ F z (here (spot (P c) (suc j)))) u (Iff.trans (h j) (Iff.symm (hc j))))
 
         early : suc m < left P r b → (marked x i (here (spot (P b) m)) ≡ true) ↔ F (here (spot (P b) m)) (here (spot (P b) (suc m)))
         early g = from_c m (here (spot (P b) m)) (here (spot (P b) (suc m))) (places_before P r bc m (omega arith)) (places_before P r bc (suc m) g)
@@ -213,7 +213,7 @@ module _ (x : Items) (f : Facts x) (s l n back : ℕ) (held : s < length x.place
             (told_at c i (Gets (labels P r ℓ c) z) hc m m p (places_before P r bc m (omega (arith, first_round P r b))) refl)
 
         late : r.start ≤ m → (marked x i p ≡ true) ↔ Gets (labels P r ℓ b) z m
-        late h = Iff·trans (told_at c i (Gets (labels P r ℓ c) z) hc (m + e) (m + e) p (places_later P r bc m h) refl) (Iff·symm (gets_same P r ℓ bc z m h))
+        late h = Iff.trans (told_at c i (Gets (labels P r ℓ c) z) hc (m + e) (m + e) p (places_later P r bc m h) refl) (Iff.symm (gets_same P r ℓ bc z m h))
 
     -- ---- sentences
 
@@ -256,18 +256,18 @@ module _ (x : Items) (f : Facts x) (s l n back : ℕ) (held : s < length x.place
     says_between i (form.Guard g) h ra rb rc ha hc = guard_between i (guard_at x.guards g) ha hc
     says_between i (form.And u v) h ra rb rc ha hc =
         by_places i (λ p q. (marked x u p ≡ true) × (marked x v p ≡ true)) (SaysIn b i (form.And u v)) (SaysIn c i (form.And u v))
-        (λ m. Iff·and (told_below b i u h.0 (rb u h.0) m) (told_below b i v h.1 (rb v h.1) m))
-        (λ m. Iff·and (told_below c i u h.0 (rc u h.0) m) (told_below c i v h.1 (rc v h.1) m)) hc
+        (λ m. Iff.and (told_below b i u h.0 (rb u h.0) m) (told_below b i v h.1 (rb v h.1) m))
+        (λ m. Iff.and (told_below c i u h.0 (rc u h.0) m) (told_below c i v h.1 (rc v h.1) m)) hc
     says_between i (form.Not u) h ra rb rc ha hc =
         by_places i (λ p q. marked x u p ≡ true → ⊥) (SaysIn b i (form.Not u)) (SaysIn c i (form.Not u))
-        (λ m. Iff·not (told_below b i u h (rb u h) m)) (λ m. Iff·not (told_below c i u h (rc u h) m)) hc
+        (λ m. Iff.not (told_below b i u h (rb u h) m)) (λ m. Iff.not (told_below c i u h (rc u h) m)) hc
     says_between i (form.Next u) h ra rb rc ha hc =
         by_places i (λ p q. marked x u q ≡ true) (SaysIn b i (form.Next u)) (SaysIn c i (form.Next u))
         (λ m. told_below b i u h (rb u h) (suc m)) (λ m. told_below c i u h (rc u h) (suc m)) hc
     says_between i (form.Until u v z t w) h ra rb rc ha hc = λ m.
-        Iff·trans (gets_between i (label_of (marked x) u v t w) z
-        (λ j. Iff·trans (ha j) (until_told a i u v z t w h ra j)) (λ j. Iff·trans (hc j) (until_told c i u v z t w h rc j)) m)
-        (Iff·symm (until_told b i u v z t w h rb m))
+        Iff.trans (gets_between i (label_of (marked x) u v t w) z
+        (λ j. Iff.trans (ha j) (until_told a i u v z t w h ra j)) (λ j. Iff.trans (hc j) (until_told c i u v z t w h rc j)) m)
+        (Iff.symm (until_told b i u v z t w h rb m))
 
     -- the marks right in the runs with a and c are right in the run with b
     rights_between : ((i : ℕ) → i < length x.sentences → RightIn a i) → ((i : ℕ) → i < length x.sentences → RightIn c i) →

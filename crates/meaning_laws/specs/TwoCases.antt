@@ -3,7 +3,7 @@
 -- Assumes nothing.
 use Rattle.std.specs.Prelude.{◌≡◌, refl, ◌↔◌, ◌⊎◌, List, [], ◌∷◌, ◌++◌, true, ℕ, zero, suc, ◌+◌, ◌≤◌, ◌<◌, ℤ, length, get_or}
 use Rattle.std.proofs.Common.{sym, ◌∙◌, ap, subst, inl, inr, ⊎_elim, arith, ne_eqb}
-use Rattle.std.proofs.Math.Logic.{Iff·symm}
+use Rattle.std.proofs.Math.Logic.Iff
 use Rattle.std.proofs.Math.Decide.{dec_lt}
 use Rattle.laws.specs.All.{All}
 use Rattle.laws.specs.Members.{Has, all_has, has_all}
@@ -79,7 +79,7 @@ data SameCounts : List Counted → List Counted → Type 1 where
 
 counts_back : {ts us : List Counted} → SameCounts ts us → SameCounts us ts
 counts_back nil = nil
-counts_back (cons e s) = cons (λ m. Iff·symm (e m)) (counts_back s)
+counts_back (cons e s) = cons (λ m. Iff.symm (e m)) (counts_back s)
 
 adds_same : {ts us : List Counted} → SameCounts ts us → (i : Moment) (z : ℤ) → Adds ts i z → Adds us i z
 unfolding Adds
@@ -138,7 +138,7 @@ module _ {x y : Items} {θ η : Valuation} {Like : ℕ → ℕ → Type 0} (e : 
   says_same T U f (next {a} {b} l) m = f a b l (suc m)
   says_same T U f (until {a} {b} {c} {d} k l t u) m =
       let s = terms t u in
-      (until_same (f a c k) (f b d l) s m, until_same (λ m. Iff·symm (f a c k m)) (λ m. Iff·symm (f b d l m)) (counts_back s) m)
+      (until_same (f a c k) (f b d l) s m, until_same (λ m. Iff.symm (f a c k m)) (λ m. Iff.symm (f b d l m)) (counts_back s) m)
     where
       terms : {t u v w : Term} → SameTerm Like t v → SameTerm Like u w → SameCounts (counted_terms T t ++ counted_terms T u) (counted_terms U v ++ counted_terms U w)
       terms none none = nil
@@ -172,8 +172,8 @@ module _ {x y : Items} {θ η : Valuation} {Like : ℕ → ℕ → Type 0} (e : 
   say_back =
       record {
         propositions = λ m. sym (e.propositions m);
-        order = λ a b i j k l. Iff·symm (e.order b a j i k l);
-        forms = λ i j l. form_back {Like = Like} {Like' = λ b a. Like a b} (λ a b k. k) (λ g h k m. Iff·symm (k m)) (e.forms j i l);
+        order = λ a b i j k l. Iff.symm (e.order b a j i k l);
+        forms = λ i j l. form_back {Like = Like} {Like' = λ b a. Like a b} (λ a b k. k) (λ g h k m. Iff.symm (k m)) (e.forms j i l);
       }
 
 -- ---- acceptance

@@ -49,8 +49,8 @@ enough : (n : ℕ) (f : ℕ) → n < f → last_digits f n ≡ numeral n
 unfolding last_digits
 enough =
     numeral_by (λ n ds. (f : ℕ) → n < f → last_digits f n ≡ ds)
-    (λ d l f. elim f [ zero ↦ λ h. absurd (omega arith) | suc g ↦ λ h. simp (lt-ltb d 10 l) ])
-    (λ n d ds p l e f. elim f [
+    (λ d l. elim [ zero ↦ λ h. absurd (omega arith) | suc g ↦ λ h. simp (lt-ltb d 10 l) ])
+    (λ n d ds p l e. elim [
       | zero ↦ λ h. absurd (omega arith)
       | suc g ↦ λ h.
           let q : (10 * n + d) / 10 ≡ n = omega arith in
@@ -73,7 +73,7 @@ numeral_more n d p h =
 pub numeral_length : (n g : ℕ) → n < 10 ^ suc g → length (numeral n) ≤ suc g
 numeral_length =
     numeral_by (λ n ds. (g : ℕ) → n < 10 ^ suc g → length ds ≤ suc g) (λ d l g h. omega arith)
-    (λ n d ds p l e g. elim g [
+    (λ n d ds p l e. elim [
       | zero ↦ λ h. absurd (omega arith)
       | suc k ↦ λ h. omega (arith, e k (omega (arith, pow-suc 10 (suc k))), length-append ds (digit d ∷ []))
     ])
@@ -81,8 +81,8 @@ numeral_length =
 pub numeral_small : (n k : ℕ) → length (numeral n) ≤ k → n < 10 ^ k
 numeral_small =
     numeral_by (λ n ds. (k : ℕ) → length ds ≤ k → n < 10 ^ k)
-    (λ d l k. elim k [ zero ↦ λ h. absurd (omega arith) | suc j ↦ λ h. omega (arith, pow-suc 10 j, one-le-pow j 10 (lit< tt)) ])
-    (λ n d ds p l e k. elim k [
+    (λ d l. elim [ zero ↦ λ h. absurd (omega arith) | suc j ↦ λ h. omega (arith, pow-suc 10 j, one-le-pow j 10 (lit< tt)) ])
+    (λ n d ds p l e. elim [
       | zero ↦ λ h. absurd (omega (arith, length-append ds (digit d ∷ [])))
       | suc j ↦ λ h. omega (arith, pow-suc 10 j, e j (omega (arith, length-append ds (digit d ∷ []))))
     ])

@@ -74,7 +74,7 @@ module _ (ps : List (List ℕ)) (b : List ℕ) where
       subst (λ l. None l b) (append-nil ps) (h 0 (omega arith)),
       λ k l. subst (λ l. None l (get_or qs k [])) (sym (append_snoc ps b (take k qs))) (h (suc k) (omega arith)),
     ),
-    λ h k. elim k [
+    λ h. elim [
       | zero ↦ λ l. subst (λ l. None l b) (sym (append-nil ps)) h.0
       | suc j ↦ λ l. subst (λ l. None l (get_or qs j [])) (append_snoc ps b (take j qs)) (h.1 j (omega arith))
     ],

@@ -76,10 +76,10 @@ module _ (l₀ : Loops) (n : ℕ) (p : Place) (ps : List Place) (l : Loops) wher
         begin = omega (arith, t.begin);
         end = omega (arith, t.end);
         endless = t.endless;
-        later = λ q. elim q [ zero ↦ λ h. absurd (omega arith) | suc r ↦ λ h. t.later r (omega arith) ];
+        later = elim [ zero ↦ λ h. absurd (omega arith) | suc r ↦ λ h. t.later r (omega arith) ];
       })
   one_before (inl e) (inl t) =
-      inl (record { before = t.before ∙ ap (loops_after l₀ n) e; none = λ q. elim q [ zero ↦ e | suc r ↦ t.none r ] })
+      inl (record { before = t.before ∙ ap (loops_after l₀ n) e; none = elim [ zero ↦ e | suc r ↦ t.none r ] })
   one_before (inr h) (inl t) =
       let a = after_mark l₀ n p.mark h in
       inr
@@ -90,7 +90,7 @@ module _ (l₀ : Loops) (n : ℕ) (p : Place) (ps : List Place) (l : Loops) wher
         begin = omega (arith, ap (λ (x : Loops). x.first.0) t.before, a.0);
         end = omega (arith, ap (λ (x : Loops). x.end.0) t.before, a.1);
         endless = ap (λ (x : Loops). x.endless) t.before ∙ a.2;
-        later = λ q. elim q [ zero ↦ λ g. absurd (omega arith) | suc r ↦ λ g. t.none r ];
+        later = elim [ zero ↦ λ g. absurd (omega arith) | suc r ↦ λ g. t.none r ];
       })
 
 -- the loops of a row of places are its last loop, or those before it where it has none

@@ -1,7 +1,7 @@
 -- What the answer for a sentence over the rounds of a place tells, by its form, where the marks of the sentences below are right. Assumes nothing.
 use Rattle.std.specs.Prelude.{◌≡◌, refl, ◌↔◌, List, Bool, true, false, cond, not, ◌&&◌, ℕ, suc, ◌+◌, ◌-◌, ◌≤◌, ◌<◌, eqb, leb, length, get_or}
 use Rattle.std.proofs.Common.{sym, arith, le-ltb, lt-ltb, le-leb, eqb-true}
-use Rattle.std.proofs.Math.Logic.{Iff·symm, Iff·rfl}
+use Rattle.std.proofs.Math.Logic.Iff
 use Rattle.std.proofs.lemmas.Bool.{false≢true, lt-leb, eqb-false}
 use Rattle.std.proofs.Math.Decide.{dec_lt}
 use Rattle.laws.specs.Tests.{cond_by, tells_and, tells_not}
@@ -117,7 +117,7 @@ module _ (x : Items) (f : Facts x) (c : Closed x) (θ : Valuation) (i : ℕ) (ri
   unfolding form_through
   form_tells form.True r = tells_always (there.0, there.1, tt) (λ m e. tt)
   form_tells (form.Proposition v) r =
-      flag_tells (bit (get_or x.states (state_at x p) (no_item kind.State)).propositions v) there (λ m e. rw e Iff·rfl)
+      flag_tells (bit (get_or x.states (state_at x p) (no_item kind.State)).propositions v) there (λ m e. rw e Iff.rfl)
   form_tells (form.Guard g) r = guard_tells x f c θ (guard_at x.guards g) p h
   form_tells (form.And a b) r =
       flag_tells (marked x a p && marked x b p) there
@@ -135,4 +135,4 @@ module _ (x : Items) (f : Facts x) (c : Closed x) (θ : Valuation) (i : ℕ) (ri
           ↔ SaysBelow x θ i a (suc m)
       on m e = rw (next_place ps f.resolved.laid m, e) at (told a r (suc m))
   form_tells (form.Until a b z t u) r =
-      tells_same (until_tells x f.resolved.laid c (label_of (marked x) a b t u) z p h) (λ m. Iff·symm (until_labels x θ i a b z t u r right m))
+      tells_same (until_tells x f.resolved.laid c (label_of (marked x) a b t u) z p h) (λ m. Iff.symm (until_labels x θ i a b z t u r right m))

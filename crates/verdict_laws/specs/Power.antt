@@ -1,7 +1,8 @@
 -- The algebra of best sums, which are told by the bounds that they reach: rounds one by one, and what is computed for them at once. Assumes nothing.
 use Rattle.std.specs.Prelude.{◌≡◌, refl, ◌↔◌, ◌⊎◌, Bool, true, false, cond, ◌||◌, ℤ, pos, negsuc, ◌+ℤ◌, neg_ℤ, ◌*ℤ◌, ◌≤ℤ◌}
 use Rattle.std.proofs.Common.{sym, ◌∙◌, ap, inl, inr, true≢false, arith, mul-zero, mul-suc}
-use Rattle.std.proofs.Math.Logic.{⊎_elim, Iff·rfl}
+use Rattle.std.proofs.Math.Logic.Iff
+use Rattle.std.proofs.Math.Logic.{⊎_elim}
 use Rattle.std.proofs.Math.Bool.{or_assoc, or_comm, or-false, or-true}
 use Rattle.std.proofs.lemmas.Bool.{false≢true}
 use Prim.Native.Nat.{ℕ, zero, suc, ◌+◌, ◌*◌, ◌-◌, ◌≤◌}
@@ -135,7 +136,7 @@ step_at l v b =
     let here = cond l.goal (best.Sum (pos 0)) best.None in
     rw (at_greater b here (onward l v)) (tells_or (is_reached b here) (is_reached b (onward l v))
     (cond_at b l.goal (best.Sum (pos 0)) (λ e. le_in (omega tests), λ h. omega tests))
-    (cond_at b l.held (plus l.gain v) (rw (at_plus b l.gain v) Iff·rfl)))
+    (cond_at b l.held (plus l.gain v) (rw (at_plus b l.gain v) Iff.rfl)))
 
 pub step_keeps : (l : Label) (v w : Best) → v ⊑ w → step l v ⊑ step l w
 step_keeps l v w h b e = (step_at l w b).1 (⊎_elim inl (λ k. inr (k.0, h (b +ℤ neg_ℤ l.gain) k.1)) ((step_at l v b).0 e))

@@ -2,7 +2,7 @@
 use Rattle.std.specs.Prelude.{◌≡◌, ◌↔◌, List, Bool, true, false, ℤ, pos, ◌+ℤ◌, neg_ℤ, length}
 use Rattle.std.proofs.Math.Path.{refl, ap, subst}
 use Rattle.std.proofs.Common.{◌∙◌, ap₂, inl, inr, ⊎_elim, add-zero}
-use Rattle.std.proofs.Math.Logic.{Iff·symm, Iff·trans}
+use Rattle.std.proofs.Math.Logic.Iff
 use Rattle.std.proofs.lemmas.Bool.{false≢true}
 use Prim.Native.Nat.{ℕ, zero, suc, ◌+◌, ◌-◌, ◌≤◌, ◌<◌}
 use Rattle.std.proofs.Math.Nat.{sub_self, sub-zero}
@@ -287,9 +287,9 @@ module _ (x : Items) (laid : Laid x.places) (closed : Closed x) (l : ℕ → Lab
           agree_tells (is_reached z y.first) (is_reached z y.last) (m, c, u) (i, e, v)
           (λ g s w.
           let r = subst (λ p. In (rounds_of (mark_at ps (first_of ps p))) (spot ps s).round) w (round_in ps laid s) in
-          Iff·trans (all_rounds q z p (suc j) t.after (is_reached z y.first) (k q)
-          (Iff·trans u (Iff·symm (in_round 0 (in_zero (k q)) m c d)))
-          (rw g (Iff·trans v (Iff·symm (in_round (repeats (k q)) (in_last (k q)) i e f))))
+          Iff.trans (all_rounds q z p (suc j) t.after (is_reached z y.first) (k q)
+          (Iff.trans u (Iff.symm (in_round 0 (in_zero (k q)) m c d)))
+          (rw g (Iff.trans v (Iff.symm (in_round (repeats (k q)) (in_last (k q)) i e f))))
           (spot ps s).round r)
           (in_round (spot ps s).round r s w refl))
 
