@@ -7,7 +7,11 @@ use lib.ListN.{set}
 use Rattle.laws.specs.All.{gather}
 use Rattle.record.specs.Layout.{record_length, line_feed}
 use Rattle.items.specs.File.{record_bytes}
+use Rattle.record_writer.proofs.Fill.{spaces_more}
 use Rattle.record_writer.proofs.write_blank.Goals as goal
+
+pub loop-i-preserved : goal.loop-i-preserved
+loop-i-preserved c = (omega arith, spaces_more c.loop-i.invariant.1 (omega arith))
 
 pub returns : goal.returns
 unfolding record_bytes gather
