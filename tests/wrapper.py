@@ -45,7 +45,7 @@ BAD_USAGE = [
 
 def run(*command, **where):
     """Status, standard output and standard error, a character for each byte."""
-    usual = {"stdout": subprocess.PIPE, "stderr": subprocess.PIPE, "timeout": 60}
+    usual = {"stdout": subprocess.PIPE, "stderr": subprocess.PIPE, "timeout": 300}
     if "input" not in where:
         usual["stdin"] = subprocess.DEVNULL
     done = subprocess.run(command, **{**usual, **where})
