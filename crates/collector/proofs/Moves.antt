@@ -28,10 +28,6 @@ pub record Sums (v : Counters) (f : ℕ → ℤ) (k : ℕ) : Type 0 where
 pub sums_same : {v : Counters} {k : ℕ} (f g : ℕ → ℤ) → ((j : ℕ) → f j ≡ g j) → Sums v f k → Sums v g k
 sums_same f g e s = record { are = s.are ∙ values_same f g (λ j h. e j); small = λ j h. omega (arith, ap size (e j), s.small j h) }
 
--- one more fits 64 bits
-pub sums_fit : {v : Counters} {f : ℕ → ℤ} {k : ℕ} → Sums v f k → k ≤ room_of kind.Place → (j : ℕ) → j < counters → size (value_at v j) + 2 ^ 15 < 2 ^ 63
-sums_fit {f = f} s l j h = rw ((has f s.are).each j h) (omega (arith, s.small j h))
-
 -- the array of moves, and a reference whose move has number t
 module _ (ts : List Move) (long : length ts ≡ room_of kind.Move) {t : ℕ} (r : Ref) (e : t ≡ slot_of r) where
   some_move : (d : Move) → t < room_of kind.Move → get_or ts t d ≡ move_at ts r
