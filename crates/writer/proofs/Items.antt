@@ -99,12 +99,6 @@ module _ {c : Case} {p₀ p : List ℕ} {n r i : ℕ} (s : Sound c) (u : Upto c 
   abbrev k : Kind
   k = kind_at r
 
-  -- the items of the kind are no more than the bytes
-  pub upto_few : i ≤ n
-  upto_few =
-      omega
-      (arith, u.begun.size, length-append (gather (kind_bytes x) (take r all_kinds)) (gather (item_bytes k) (take i (list_of k x))), items_long s k i u.held)
-
   -- one more has room
   pub upto_room : r < length all_kinds → i < count_of c.count (kind_at r) → n + record_length ≤ counts_total c.count * record_length
   unfolding file_of
