@@ -2,10 +2,11 @@
 #![tactic(auto)]
 
 ghost use Rattle.std.specs.Prelude.{◌≡◌, ◌<◌, length, take, None};
-ghost use Rattle.std.specs.Io.{ReadsAtMost};
+ghost use Rattle.std.specs.Io.{ReadsAtMost, StartsWith};
 ghost use Rattle.std.specs.Io.KnownBytes.{Consumes, IsAtEnd, ReadConsumes};
 ghost use Rattle.input.specs.Counts.{IsPrefixLen};
 
+use std::fmt::InlineText;
 use std::io;
 use std::io::{ErrorKind, Read};
 
@@ -64,4 +65,22 @@ pub fn read_all(rt: &impl io::Input, buf: &mut [u8]) -> Input
     ensures { IsPrefixLen result.count buf.new }
 {
     read_from(&mut rt.reader(), buf)
+}
+
+// The words of an error, without the system's number of it, which std puts behind them.
+fn words(text: &str) -> &str
+    ensures { StartsWith text.now result.now }
+{
+    match text.split_once(" (os error ") {
+        Some((words, _)) => words,
+        None => text,
+    }
+}
+
+// Says what failed and why. That it can't be said changes nothing.
+pub fn fail(err: &impl Print, what: &[u8], why: io::Error) {
+    let text = InlineText::<128>::of(why);
+    let _ = err.write_all(what);
+    let _ = err.write_all(b": ");
+    let _ = err.println(words(text.as_str()));
 }
