@@ -1,7 +1,7 @@
 -- The updates of the move that a reference names, added to a value for each counter; where it names none, nothing is added. Assumes nothing.
 use mathlib.Core.Path.{◌≡◌, refl, sym, ◌∙◌, ap, subst, subst₂}
 use mathlib.Core.List.{List}
-use Prim.Native.Nat.{ℕ, suc, ◌+◌, ◌-◌, ◌*◌, ◌≤◌, ◌<◌, ◌^◌}
+use Prim.Native.Nat.{ℕ, suc, ◌+◌, ◌*◌, ◌≤◌, ◌<◌, ◌^◌}
 use native.Mathlib.Omega.{arith}
 use lib.IntN.{ℤ, pos, ◌+ℤ◌, +ℤ_idl, +ℤ_idr}
 use lib.ListN.{length, get_or, get_or-eq_default}
@@ -14,7 +14,6 @@ use Rattle.counters.specs.Vectors.{value_at, vec, vec_of}
 use Rattle.counters.specs.Values.{has, values_same}
 use Rattle.items.specs.declared.Ref.{Ref}
 use Rattle.items.specs.declared.Ref.TheVariants as ref
-use Rattle.items.specs.declared.LoopMark.TheVariants as mark
 use Rattle.items.specs.declared.Move.{Move}
 use Rattle.items.specs.Lists.{Items, room_of, no_item}
 use Rattle.meaning.specs.Run.{move_at, update}

@@ -200,6 +200,7 @@ pub fn content_at(row: Record, k: usize) -> Content
 }
 
 // A state: its propositions.
+#[tactic(auto, unfolding(crate::specs::Items::state_of))]
 pub fn state_of(row: Record) -> State
     ensures { result ≡ state_of row.fields }
 {
@@ -222,6 +223,7 @@ pub fn weights_of(row: Record) -> Weights
 }
 
 // A guard: a coefficient for each counter, then the bound.
+#[tactic(auto, unfolding(crate::specs::Items::guard_of))]
 pub fn guard_of(row: Record) -> Guard
     ensures { result ≡ guard_of row.fields }
 {
@@ -233,6 +235,7 @@ pub fn guard_of(row: Record) -> Guard
 }
 
 // A move: from, to, an update for each counter, two guards.
+#[tactic(auto, unfolding(crate::specs::Items::move_of))]
 pub fn move_of(row: Record) -> Move
     ensures { result ≡ move_of row.fields }
 {
@@ -249,6 +252,7 @@ pub fn move_of(row: Record) -> Move
 }
 
 // An until: held sentence, goal, bound, two terms.
+#[tactic(auto, unfolding(crate::specs::Items::form_of))]
 fn until_of(row: Record) -> Form
     ensures { result ≡ form_of 6 row.fields }
 {
@@ -264,6 +268,7 @@ fn until_of(row: Record) -> Form
 }
 
 // The sentence of a form.
+#[tactic(auto, unfolding(crate::specs::Items::form_of))]
 fn form_of(form: u32, row: Record) -> Form
     ensures { result ≡ form_of form row.fields }
 {
@@ -280,6 +285,7 @@ fn form_of(form: u32, row: Record) -> Form
 }
 
 // A sentence: its form, and what the form asks for.
+#[tactic(auto, unfolding(crate::specs::Items::sentence_of))]
 pub fn sentence_of(row: Record) -> Sentence
     ensures { result ≡ sentence_of row.fields }
 {
@@ -288,6 +294,7 @@ pub fn sentence_of(row: Record) -> Sentence
 }
 
 // A loop mark, of its length, its rounds and its back move.
+#[tactic(auto, unfolding(crate::specs::Items::mark_of))]
 fn mark_of(length: Content, rounds: Content, back: Content) -> LoopMark
     ensures { result ≡ mark_of length rounds back }
 {
@@ -310,6 +317,7 @@ fn mark_of(length: Content, rounds: Content, back: Content) -> LoopMark
 }
 
 // A place: its state, the move into it, its marks, its loop mark.
+#[tactic(auto, unfolding(crate::specs::Items::place_of))]
 pub fn place_of(row: Record) -> Place
     ensures { result ≡ place_of row.fields }
 {

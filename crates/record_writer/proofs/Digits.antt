@@ -84,7 +84,6 @@ module _ (p₀ : List ℕ) (m : ℕ) (w : width ≤ length p₀) (s : m < 10 ^ w
 
 -- y is read as the size of x, and x is spelled by these bytes and the digits of its size, of which there are at most k
 pub record Sized (x : ℤ) (sign : List ℕ) (k : ℕ) (y : ℤ) : Type 0 where
-  pub fits : SFits w32 y
   pub read : to_z w32 (of_z w32 y) ≡ pos (nat_abs x)
   pub small : nat_abs x < 10 ^ k
   pub text : token x ≡ sign ++ numeral (nat_abs x)
@@ -101,7 +100,7 @@ unfolding token
 sized_plain x h e = go x h (rw (read_same x h) at e)
   where
     go : (x : ℤ) → Spellable x → lt_z x (pos 0) ≡ false → Sized x [] width x
-    go (pos n) h e = record { fits = size_fits w32 (pos n) (omega arith); read = size_read w32 (pos n) (omega arith); small = h; text = refl }
+    go (pos n) h e = record { read = size_read w32 (pos n) (omega arith); small = h; text = refl }
     go (negsuc n) h e = absurd (true≢false e)
 
 pub sized_below : (x : ℤ) → Spellable x → lt_z (to_z w32 (of_z w32 x)) (pos 0) ≡ true → Sized x (minus ∷ []) (width - 1) (pos 0 -ℤ to_z w32 (of_z w32 x))
@@ -112,7 +111,7 @@ sized_below x h e = rw (read_same x h) (go x h (rw (read_same x h) at e))
     go (pos n) h e = absurd (omega (arith, ltb-true n 0 e))
     go (negsuc n) h e =
         let m = pos (suc n) in
-        rw (+ℤ_idl m) (record { fits = size_fits w32 m (omega arith); read = size_read w32 m (omega arith); small = h; text = refl })
+        rw (+ℤ_idl m) (record { read = size_read w32 m (omega arith); small = h; text = refl })
 
 -- ---- numbers that are kept in another width
 

@@ -6,7 +6,7 @@ use native.Mathlib.Numerals.{add-one}
 use native.Mathlib.Omega.{arith}
 use lib.IntN.{ℤ, pos}
 use lib.ListN.{length, get_or, take, drop, set, replicate, length-map, length-set, length-append, length-replicate, replicate-append-replicate, get_or-map}
-use lib.Seq.{take_at, take-append-add, drop-append-add, append_snoc, take-add, drop-drop, drop-cons, set_at, take_all, take-suc, length-take-le}
+use lib.Seq.{take_at, take-append-add, drop-append-add, append_snoc, take-add, drop-drop, drop-cons, set_at, take-suc, length-take-le}
 use Rattle.laws.specs.All.{none, also, gather}
 use Rattle.laws.specs.Members.{all_at, all_both, all_parts}
 use Rattle.laws.specs.Gathered.{gather_both, gather_long}
@@ -23,15 +23,13 @@ use Rattle.kinds.specs.declared.Kind.{Kind}
 use Rattle.kinds.specs.declared.Kind.TheVariants as kind
 use Rattle.kinds.specs.Kinds.{letter_of, counters}
 use Rattle.items.specs.declared.Term.{Term}
-use Rattle.items.specs.declared.Term.TheVariants as term
 use Rattle.items.specs.declared.Form.{Form}
 use Rattle.items.specs.declared.Form.TheVariants as form
-use Rattle.items.specs.declared.LoopMark.TheVariants as mark
 use Rattle.items.specs.declared.Guard.{Guard}
 use Rattle.items.specs.declared.Move.{Move}
 use Rattle.items.specs.declared.Sentence.{Sentence}
 use Rattle.items.specs.declared.Place.{Place}
-use Rattle.items.specs.Items.{Item, integer, blank, reference, term_fields, form_fields, mark_fields, filled_of, row_of}
+use Rattle.items.specs.Items.{Item, integer, blank, reference, form_fields, mark_fields, filled_of, row_of}
 use Rattle.items.specs.File.{field_bytes, CanSpell, record_bytes, item_bytes}
 use Rattle.record_writer.specs.Fields.{ending_at, Put, fill_in, fill_from, HasRecord}
 
@@ -57,9 +55,6 @@ put_field p q text r f h u =
 pub record Spaces (p₀ p : List ℕ) (i : ℕ) : Type 0 where
   pub bytes : p ≡ replicate i space ++ drop i p₀
   pub long : length p ≡ length p₀
-
-pub spaces_none : (p₀ : List ℕ) → Spaces p₀ p₀ 0
-spaces_none p₀ = record { bytes = refl; long = refl }
 
 pub spaces_more : {p₀ p : List ℕ} {i : ℕ} → Spaces p₀ p i → i < length p₀ → Spaces p₀ (set p i space) (i + 1)
 spaces_more {p₀} {p} {i} s h =
@@ -88,9 +83,6 @@ pub record Numbers (f : ℕ) (l : List ℤ) (p₀ p : List ℕ) (j : ℕ) : Type
   pub bytes : p ≡ fill_from f (map integer (take j l)) p₀
   pub long : length p ≡ length p₀
 
-pub numbers_none : (f : ℕ) (l : List ℤ) (p₀ : List ℕ) → Numbers f l p₀ p₀ 0
-numbers_none f l p₀ = record { bytes = refl; long = refl }
-
 pub numbers_more : {f : ℕ} {l : List ℤ} {p₀ p q : List ℕ} {j : ℕ} → Numbers f l p₀ p j → j < length l → length q ≡ length p →
     q ≡ fill_in (f + j) (Number (get_or l j (pos 0))) p → Numbers f l p₀ q (j + 1)
 numbers_more {f} {l} {p₀} {p} {q} {j} n h e r =
@@ -105,9 +97,6 @@ numbers_more {f} {l} {p₀} {p} {q} {j} n h e r =
           ∙ ap (λ x. fill_from f x p₀) (sym (ap (λ k. map integer (take k l)) (add-one j) ∙ ap (map integer) (take-suc l j (pos 0) h) ∙ map-append integer (take j l) (get_or l j (pos 0) ∷ [])));
       long = e ∙ n.long;
     }
-
-pub numbers_all : {f : ℕ} {l : List ℤ} {p₀ p : List ℕ} {j : ℕ} → Numbers f l p₀ p j → length l ≤ j → p ≡ fill_from f (map integer l) p₀
-numbers_all {l = l} {j = j} n h = rw (take_all j l h) at n.bytes
 
 -- each of them can be spelled where all can
 pub numbers_spell : (l : List ℤ) (j : ℕ) → CanSpell (map integer l) → Spellable (get_or l j (pos 0))
@@ -179,15 +168,6 @@ pub fill_counters : (f : ℕ) (l : List ℤ) (ys : List Field) (bs : List ℕ) �
     fill_from f (map integer l ++ ys) bs ≡ fill_from (f + counters) ys (fill_from f (map integer l) bs)
 fill_counters f l ys bs e =
     fill_both f (map integer l) ys bs ∙ ap (λ n. fill_from (f + n) ys (fill_from f (map integer l) bs)) (length-map l integer ∙ e)
-
--- the two terms of an until
-pub fill_terms : (t u : Term) (bs : List ℕ) → fill_from 5 (term_fields t ++ term_fields u) bs ≡ fill_from 7 (term_fields u) (fill_from 5 (term_fields t) bs)
-fill_terms term.None u bs = refl
-fill_terms (term.Some c s) u bs = refl
-
--- the rounds of a loop mark can be spelled where all its fields can
-pub rounds_spell : {l n b : ℕ} → CanSpell (mark_fields (mark.Counted l n b)) → Spellable (pos n)
-rounds_spell (also a (also h s)) = h
 
 -- ---- an item
 

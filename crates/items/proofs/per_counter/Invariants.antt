@@ -1,0 +1,13 @@
+-- The loop fills the numbers of the counters. Assumes nothing.
+use Rattle.std.proofs.Common.{◌+◌, ◌-◌}
+use Rattle.laws.specs.Tab.{FilledTo}
+use Rattle.record.specs.Layout.{at}
+use Rattle.kinds.specs.Kinds.{counters}
+use Rattle.items.specs.Items.{short_of, integer_of}
+use Rattle.items.proofs.per_counter.Given as goal
+
+abbrev pub invariant-loop-j : goal.invariant-loop-j
+invariant-loop-j l = FilledTo (λ k. short_of (integer_of (at l.fields (l.from + k)))) counters l.each l.j
+
+abbrev pub decreases-loop-j : goal.decreases-loop-j
+decreases-loop-j l = counters - l.j
