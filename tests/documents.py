@@ -19,7 +19,7 @@ MAY = {
     "Laws": ["What must be believed", "What is computed"],
     "Programs": ["What must be believed", "What is computed", "Laws"],
 }
-ALWAYS = {"laws", "os", "libc", "io", "check"}  # the general laws, and the toolchain's libraries
+ALWAYS = {"laws"}  # the general laws
 
 
 def absent_files(name):
@@ -35,9 +35,9 @@ def absent_files(name):
 
 
 def stands_on():
-    """The crates, each with those that it stands on."""
-    lines = [line.split(":") for line in (ROOT / "crates.txt").read_text().splitlines() if line and not line.startswith("#")]
-    return {crate: deps.split() for crate, deps in lines}
+    """The crates, each with those that its text names."""
+    lines = [line.split("#")[0].split(":") for line in (ROOT / "crates.txt").read_text().splitlines()]
+    return {line[0].split()[0]: line[1].split() for line in lines if len(line) == 2}
 
 
 def layers():
@@ -86,11 +86,16 @@ def spread(cell, mark):
         yield prefix + parts[-1]
 
 
+def rows_of(table):
+    """The rows of a table, cut into cells."""
+    return [line.split("|") for line in table.splitlines() if line.startswith("| `")]
+
+
 def unpromised():
-    """Public functions and must-fail edits that PROMISES.md leaves out, or has and aren't there."""
-    rows = [line.split("|") for line in (ROOT / "docs" / "PROMISES.md").read_text().splitlines() if line.startswith("| `")]
-    told = {name for row in rows for name in spread(row[1], "::")}
-    edits = {name for row in rows for name in spread(re.sub(r"\(.*?\)", "", row[4]), "/")}
+    """Public functions and must-fail edits that PROMISES.md leaves out, or has and aren't there. Its second table is of theorems, which have edits too."""
+    functions, theorems = map(rows_of, (ROOT / "docs" / "PROMISES.md").read_text().split("\n| theorem |"))
+    told = {name for row in functions for name in spread(row[1], "::")}
+    edits = {name for row in functions + theorems for name in spread(re.sub(r"\(.*?\)", "", row[4]), "/")}
     there = {f"{file.parts[-3]}/{file.stem}" for file in CRATES.glob("*/must-fail/*.edit")}
     for what, named, held in (("function", told, set(public_functions())), ("edit", edits, there)):
         for name in sorted(named ^ held):

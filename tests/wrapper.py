@@ -19,8 +19,9 @@ from tally import Tally
 
 WRAPPER = ROOT / "plancheck"
 ACCEPTED = (0, "0 0 0\n", "")
-WRITES = 'fn main() {\n    io::write_all(1, b"%s\\n");\n}\n'
-PAST_THE_END = "fn main() {\n    let bytes = [0u8; 2];\n    io::write_all(1, &bytes[..3]);\n}\n"
+# A program that only writes a line, and one that reads past the end of two bytes.
+WRITES = '#![tactic(auto)]\n\nuse std::io;\n\nfn main(rt: HostRuntime) -> io::Result<()> {\n    rt.write_all(b"%s\\n")\n}\n'
+PAST_THE_END = "#![tactic(auto)]\n\nuse std::io;\n\nfn main(rt: HostRuntime) -> io::Result<()> {\n    let bytes = [0u8; 2];\n    rt.write_all(&bytes[..3])\n}\n"
 IS_NOTATION = "this is the short notation: tools/case spell turns it into a case file"
 NO_FILE, IS_FOLDER, NO_ROOM, TOO_LARGE = "No such file or directory", "Is a directory", "No space left on device", "File too large"
 # Files that are refused, by their lines.
@@ -44,7 +45,7 @@ BAD_USAGE = [
 
 def run(*command, **where):
     """Status, standard output and standard error, a character for each byte."""
-    usual = {"stdout": subprocess.PIPE, "stderr": subprocess.PIPE, "timeout": 60}
+    usual = {"stdout": subprocess.PIPE, "stderr": subprocess.PIPE, "timeout": 300}
     if "input" not in where:
         usual["stdin"] = subprocess.DEVNULL
     done = subprocess.run(command, **{**usual, **where})
@@ -72,7 +73,7 @@ def repository(folder, wrapper):
     shutil.copytree(ROOT / "tools", folder / "tools", ignore=shutil.ignore_patterns("__pycache__"))
     for file in (wrapper, ROOT / "VERSION"):
         shutil.copy(file, folder)
-    (folder / "crates.txt").write_text(f"# a crate\n{wrapper.name}: io libc\n")
+    (folder / "crates.txt").write_text(f"# a crate\n{wrapper.name}:\n")
     return crate
 
 

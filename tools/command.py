@@ -1,4 +1,7 @@
-"""What ./plancheck, ./plantool and tools/case share: files read, programs built and run, what is printed, and how a call ends."""
+"""What ./plancheck, ./plantool and tools/case share: files read, programs built and run, what is printed, and how a call ends.
+
+As a program, command.py NAME .. builds programs into target/bin/, where one is absent or older than the crates.
+"""
 import collections
 import difflib
 import os
@@ -18,8 +21,8 @@ NO_NUMBER = "is no number in plain digits, at most 19, without a 0 in front"
 # More bytes of a case than any program reads. (What stands behind its 214th record can't change an answer: casefile/specs/Bounded.antt.)
 MOST = 1 << 20
 CHUNK = 1 << 16
-CRATE = re.compile(r"rt: (\w+) (proved|NOT PROVED)(.*)\n")
-UNCHANGED = " (unchanged"
+# What rt says of each crate that it proves, last of all whether it is; and then that it runs the program, where all are.
+CRATE, PROVED, RUNS = re.compile(r"crate (\w+): "), re.compile(r"logic=(not-)?proved\b"), "rt: running "
 
 # A word of plantool: names for its numbers; what comes of it, a case file behind the program's line or the line alone; and that in words.
 FILE, ALONE = "a file behind the line", "the line alone"
@@ -143,45 +146,65 @@ def read(file, most=MOST):
 def listed():
     """The crates, each with those that it stands on."""
     lines = [line.split("#")[0].split(":") for line in (ROOT / "crates.txt").read_text(encoding="ascii").splitlines()]
-    return {line[0].strip(): line[1].split() for line in lines if len(line) == 2}
+    return {line[0].split()[0]: line[1].split() for line in lines if len(line) == 2}
 
 
 def below(name):
-    """A crate, and all of the project that it stands on."""
-    crates, found, left = listed(), set(), [name]
-    while left:
-        crate = left.pop()
+    """All of the project that a crate stands on, each behind those that it stands on, and last the crate: the order in which rt proves them."""
+    crates, found = listed(), []
+
+    def add(crate):
         if crate in crates and crate not in found:
-            found.add(crate)
-            left += crates[crate]
+            for other in crates[crate]:
+                add(other)
+            found.append(crate)
+
+    add(name)
     return found
 
 
 def is_older(program):
-    """Whether a program is older than crates.txt or something in the crates."""
-    made = program.stat().st_mtime_ns
-    paths = [os.path.join(folder, name) for folder, _, files in os.walk(ROOT / "crates") for name in (".", *files)]
-    return any(os.lstat(path).st_mtime_ns > made for path in [ROOT / "crates.txt"] + paths)
+    """Whether a program is older than crates.txt or something in the crates, but for what rt makes there."""
+    made, paths = program.stat().st_mtime_ns, [ROOT / "crates.txt"]
+    for folder, folders, files in os.walk(ROOT / "crates"):
+        folders[:] = [name for name in folders if name != "out"]
+        paths += [os.path.join(folder, name) for name in (".", *files)]
+    return any(os.lstat(path).st_mtime_ns > made for path in paths)
+
+
+def prove(name):
+    """Has rt prove and build a program, and says each crate when it is proved; nothing of those that are unchanged. Whether all are.
+
+    rt runs a program that it has built, so this one gets no input, and what it prints is thrown away.
+    """
+    crates, crate, is_built = below(name), "", False
+    how = {"stdin": subprocess.DEVNULL, "stdout": subprocess.DEVNULL, "stderr": subprocess.PIPE}
+    with subprocess.Popen(["rt", "run"], cwd=ROOT / "crates" / name, **how) as process:
+        for line in process.stderr:
+            line = line.decode("latin-1")
+            is_built = is_built or line.startswith(RUNS)
+            if is_built:
+                continue  # what the program says
+            if found := CRATE.match(line):
+                crate = found[1]
+            elif (found := PROVED.match(line)) and crate in crates:
+                say(f"crate {crates.index(crate) + 1} of {len(crates)}: {crate} {'NOT PROVED' if found[1] else 'proved'}")
+    return is_built
 
 
 def build(name, program):
-    """Proves and builds a program. Says each crate when it is proved; nothing of those that are unchanged."""
+    """Proves and builds a program, and copies it from where rt leaves it."""
     if not shutil.which("rt"):
         raise NoAnswer("rt is missing: the program is proved and built by the Rattle toolchain")
-    total, done = len(below(name)), 0
     if not program.exists():
-        (ROOT / "target" / "stamp" / name).unlink(missing_ok=True)  # else rt takes it for built
-        say(f"proving and building the program into target/: {total} crates, some minutes from nothing")
-    with subprocess.Popen(["rt", "check", name], cwd=ROOT, stdin=subprocess.DEVNULL, stdout=subprocess.PIPE, stderr=subprocess.STDOUT) as check:
-        for line in check.stdout:
-            if crate := CRATE.fullmatch(line.decode("latin-1")):
-                done += 1
-                if not crate[3].startswith(UNCHANGED):
-                    say(f"crate {done} of {total}: {crate[1]} {crate[2]}{crate[3]}")
-    if check.returncode:
+        say(f"proving and building the program into target/: {len(below(name))} crates, some minutes from nothing")
+    if not prove(name):
         program.unlink(missing_ok=True)
-        raise NoAnswer(f"not built: 'rt check {name}' says more")
-    os.utime(program)
+        raise NoAnswer(f"not built: 'rt check' in crates/{name} says more")
+    program.parent.mkdir(parents=True, exist_ok=True)
+    new = program.with_name(f"{name}.{os.getpid()}")
+    shutil.copy(ROOT / "crates" / name / "out" / name, new)
+    new.replace(program)
 
 
 def built(name):
@@ -208,3 +231,14 @@ def run(program, words, data):
     if behind != follow:
         raise NoAnswer(f"{program} printed {behind} bytes behind its line, and {follow} belong there")
     return done.stdout, told
+
+
+def main(names):
+    """Builds programs, for the tests and the benchmarks."""
+    for name in names:
+        built(name)
+    return DONE
+
+
+if __name__ == "__main__":
+    end_with(main)

@@ -1,26 +1,17 @@
--- The number of a field against a natural one, as the code compares them: by the sign first, and by the bits from a place on. Assumes nothing.
+-- The number of a field against a natural one, as the code compares them by the bits from a place on. Assumes nothing.
 use mathlib.Core.Path.{◌≡◌, refl, sym, ap, ◌∙◌}
 use mathlib.Core.Bool.{Bool, true, false}
 use Prim.Native.Nat.{ℕ, ◌/◌, ◌*◌, ◌^◌, ◌≤◌, ◌<◌}
 use native.Mathlib.Nat.{div-eq_of_lt, le-div_iff_mul-le}
 use native.Mathlib.Omega.{arith}
 use lib.Dec.{leb, ltb}
-use lib.IntN.{ℤ, pos, negsuc, nat_abs}
+use lib.IntN.{pos, negsuc}
 use lib.Pow.{pow_pos, pow_mono}
-use lib.Signed.{lt_z, le_z, pos-nat_abs}
-use borrow.Author.Tests.{ltb-true, lt-ltb, leb-true, leb-false, lt-leb}
+use borrow.Author.Tests.{lt-ltb, leb-true, leb-false, lt-leb}
 use Rattle.record.specs.declared.Content.{Content}
 use Rattle.record.specs.declared.Content.TheVariants.{Blank, Number, Bad}
 use Rattle.kinds.specs.Contents.{natural}
-use Rattle.kinds.proofs.Natural.{not_below}
 use Rattle.checks.specs.Faults.{at_least}
-
-pub negative : (m : ℕ) (z : ℤ) → lt_z z (pos 0) ≡ true → false ≡ le_z (pos m) z
-negative m (pos n) e = absurd (let h : n < 0 = ltb-true n 0 e in omega arith)
-negative m (negsuc n) e = refl
-
-pub at_least_lem : (m : ℕ) (z : ℤ) → lt_z z (pos 0) ≡ false → leb m (nat_abs z) ≡ le_z (pos m) z
-at_least_lem m z e = ap (le_z (pos m)) (pos-nat_abs z (not_below z e))
 
 -- a number that is m or more, where m is not 0
 positive : (m : ℕ) (c : Content) → 0 < m → leb m (natural c) ≡ at_least m c

@@ -218,6 +218,7 @@ fn has_wrong_form(shape: Shape, row: Record) -> bool
 }
 
 // 14, 16 for a form, 15 and 16, in this order.
+#[tactic(auto, unfolding(crate::specs::Input::range_answer, crate::specs::Input::extra_answer, crate::specs::Input::missing_answer, crate::specs::Input::form_answer, crate::specs::Input::fields_answer))]
 pub fn fields_answer(shape: Shape, row: Record) -> Answer
     ensures { result ≡ fields_answer shape row }
 {
@@ -292,6 +293,7 @@ pub fn fits(counts: Counts, shape: Shape, row: Record) -> bool
 }
 
 // The head of a record: 11, 12, 13.
+#[tactic(auto, unfolding(crate::specs::Input::ended_head, crate::specs::Input::head_of))]
 pub fn head_of(bytes: &[u8]) -> Head
     ensures { result ≡ head_of bytes.now }
 {

@@ -1,7 +1,7 @@
 -- The updates of the move that a reference names, added to a value for each counter; where it names none, nothing is added. Assumes nothing.
 use mathlib.Core.Path.{◌≡◌, refl, sym, ◌∙◌, ap, subst, subst₂}
 use mathlib.Core.List.{List}
-use Prim.Native.Nat.{ℕ, suc, ◌+◌, ◌-◌, ◌*◌, ◌≤◌, ◌<◌, ◌^◌}
+use Prim.Native.Nat.{ℕ, suc, ◌+◌, ◌*◌, ◌≤◌, ◌<◌, ◌^◌}
 use native.Mathlib.Omega.{arith}
 use lib.IntN.{ℤ, pos, ◌+ℤ◌, +ℤ_idl, +ℤ_idr}
 use lib.ListN.{length, get_or, get_or-eq_default}
@@ -14,7 +14,6 @@ use Rattle.counters.specs.Vectors.{value_at, vec, vec_of}
 use Rattle.counters.specs.Values.{has, values_same}
 use Rattle.items.specs.declared.Ref.{Ref}
 use Rattle.items.specs.declared.Ref.TheVariants as ref
-use Rattle.items.specs.declared.LoopMark.TheVariants as mark
 use Rattle.items.specs.declared.Move.{Move}
 use Rattle.items.specs.Lists.{Items, room_of, no_item}
 use Rattle.meaning.specs.Run.{move_at, update}
@@ -28,10 +27,6 @@ pub record Sums (v : Counters) (f : ℕ → ℤ) (k : ℕ) : Type 0 where
 
 pub sums_same : {v : Counters} {k : ℕ} (f g : ℕ → ℤ) → ((j : ℕ) → f j ≡ g j) → Sums v f k → Sums v g k
 sums_same f g e s = record { are = s.are ∙ values_same f g (λ j h. e j); small = λ j h. omega (arith, ap size (e j), s.small j h) }
-
--- one more fits 64 bits
-pub sums_fit : {v : Counters} {f : ℕ → ℤ} {k : ℕ} → Sums v f k → k ≤ room_of kind.Place → (j : ℕ) → j < counters → size (value_at v j) + 2 ^ 15 < 2 ^ 63
-sums_fit {f = f} s l j h = rw ((has f s.are).each j h) (omega (arith, s.small j h))
 
 -- the array of moves, and a reference whose move has number t
 module _ (ts : List Move) (long : length ts ≡ room_of kind.Move) {t : ℕ} (r : Ref) (e : t ≡ slot_of r) where

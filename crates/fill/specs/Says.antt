@@ -1,5 +1,5 @@
 -- What each answer to filling in the marks says. Never what a checker works out.
-use Rattle.std.specs.Prelude.{◌≡◌, ℕ}
+use Rattle.std.specs.Prelude.{ℕ}
 use Rattle.laws.specs.All.{All}
 use Rattle.items.specs.Lists.{Items}
 use Rattle.answers.specs.declared.Filling.{Filling}

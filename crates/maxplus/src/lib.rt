@@ -113,6 +113,7 @@ fn power(r: Round, n: u32, v: i64) -> i64
 }
 
 // Rounds without end.
+#[tactic(auto, unfolding(crate::specs::Numbers::limit_by))]
 fn limit(r: Round) -> i64
     ensures { result ≡ limit_by r }
 {

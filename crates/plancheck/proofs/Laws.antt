@@ -1,14 +1,13 @@
--- Bytes put into a buffer one behind the other, the numbers of a line, and a line feed looked for. Assumes nothing.
-use mathlib.Core.Path.{◌≡◌, refl, sym, ◌∙◌, ap}
+-- The numbers of a line, and a line feed looked for. Assumes nothing.
+use mathlib.Core.Path.{◌≡◌, sym, ◌∙◌, ap}
 use mathlib.Core.Bool.{true, false, ◌||◌}
-use mathlib.Core.List.{List, [], ◌∷◌, ◌++◌, append_assoc, append-nil}
+use mathlib.Core.List.{List, [], ◌∷◌, ◌++◌, append_assoc}
 use Prim.Native.Nat.{ℕ, suc, ◌+◌, ◌-◌, ◌≤◌, ◌<◌}
 use native.Mathlib.Numerals.{add-one}
 use native.Mathlib.Omega.{arith}
 use borrow.Author.Tests.{eq-eqb, ne_eqb}
-use lib.Dec.{eqb}
-use lib.ListN.{length, get_or, take, drop, set, replicate, length-append, drop_of_length-le}
-use lib.Seq.{take_at, take_all, take-suc, take-suc-set, drop-cons}
+use lib.ListN.{length, get_or, take, drop, replicate, length-append, drop_of_length-le}
+use lib.Seq.{take_at, drop-cons}
 use Rattle.record.specs.Spelling.{space}
 use Rattle.record.specs.Layout.{line_feed}
 use Rattle.answers.specs.declared.Told.{Told}
@@ -16,30 +15,6 @@ use Rattle.output.specs.declared.Line.{Line}
 use Rattle.output.specs.Line.{line_of, longest, holding}
 use Rattle.plancheck.specs.Named.{numbers, named_line, has_line_feed}
 use Rattle.plancheck.specs.OneLine.{unnamed}
-
--- ---- bytes put into a buffer
-
--- none of them yet
-pub put_none : (p part : List ℕ) (at : ℕ) → take (at + 0) p ≡ take at p ++ take 0 part
-put_none p part at =
-    let n : at + 0 ≡ at = omega arith in
-    ap (λ k. take k p) n ∙ sym (append-nil (take at p))
-
--- one of them more
-pub put_byte : (part p₀ p : List ℕ) (at i : ℕ) → take (at + i) p ≡ take at p₀ ++ take i part → i < length part → at + i < length p →
-    take (at + (i + 1)) (set p (at + i) (get_or part i 0)) ≡ take at p₀ ++ take (i + 1) part
-put_byte part p₀ p at i e h g =
-    let x = get_or part i 0 in
-    let n : at + (i + 1) ≡ suc (at + i) = omega arith in
-    ap (λ k. take k (set p (at + i) x)) n
-    ∙ take-suc-set p (at + i) x g
-    ∙ ap (λ q. q ++ (x ∷ [])) e
-    ∙ append_assoc (take at p₀) (take i part) (x ∷ [])
-    ∙ ap (λ q. take at p₀ ++ q) (sym (ap (λ k. take k part) (add-one i) ∙ take-suc part i 0 h))
-
--- all of them
-pub put_all : (part p₀ p : List ℕ) (at i : ℕ) → take (at + i) p ≡ take at p₀ ++ take i part → i ≡ length part → take (at + i) p ≡ take at p₀ ++ part
-put_all part p₀ p at i e h = e ∙ ap (λ q. take at p₀ ++ q) (take_all i part (omega arith))
 
 -- ---- the numbers of a line
 

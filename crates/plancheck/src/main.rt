@@ -3,14 +3,24 @@
 #![tactic(auto)]
 
 ghost use Rattle.std.specs.Prelude.{◌≡◌, ◌++◌, ◌+◌, ◌≤◌, length, take};
-ghost use Rattle.io.specs.Counts.{IsPrefixLen};
+ghost use Rattle.input.specs.Counts.{IsPrefixLen};
 ghost use Rattle.casefile.specs.Answer.{answer_of};
 ghost use Rattle.plancheck.specs.Named.{has_line_feed, longest_name, named_line};
 
 use casefile::{ENOUGH, answer};
 use input::Input;
-use libc::{PATH_MAX, STDERR_FILENO, STDOUT_FILENO};
 use output::{Line, line_of};
+use std::env::FillError;
+use std::fs::File;
+use std::io;
+use std::io::ErrorKind;
+use std::rt::Env;
+
+// The most bytes of an argument that is read; a path has one less.
+const PATH_MAX: usize = 4096;
+
+// The system's number of the error that a name is too long.
+const ENAMETOOLONG: i32 = 36;
 
 // The most bytes of the line of a named file: those of a line, a space and a name.
 const MOST: usize = Line::MOST + 1 + PATH_MAX;
@@ -21,12 +31,9 @@ fn put(part: &[u8], at: usize, buf: &mut [u8]) -> usize
     ensures value { result ≡ at + length part.now }
     ensures buf_after { take result buf.new ≡ take at buf.old ++ part.now }
 {
-    let mut i: usize = 0;
-    while i < part.len() {
-        buf[at + i] = part[i];
-        i += 1;
-    }
-    at + i
+    let end = at + part.len();
+    buf[at..end].copy_from_slice(part);
+    end
 }
 
 // Puts the line of a file at the start of a buffer, by its bytes and its name, and answers how many bytes it is.
@@ -60,110 +67,110 @@ fn has_line_feed(name: &[u8]) -> bool
 }
 
 // Writes a line, and answers whether all of it was written; where it wasn't, it says why.
-fn print(line: &[u8]) -> bool {
-    let done = io::write_all(STDOUT_FILENO, line);
-    if !done {
-        os::fail(b"plancheck: standard output");
+fn print(rt: &HostRuntime, line: &[u8]) -> bool {
+    match rt.write_all(line) {
+        Ok(()) => true,
+        Err(error) => {
+            input::fail(&rt.stderr(), b"plancheck: standard output", error);
+            false
+        }
     }
-    done
 }
 
 // Says on standard error why a call failed on a file.
-fn fail(name: &[u8]) {
-    io::write_all(STDERR_FILENO, b"plancheck: ");
-    os::fail(name);
+fn fail(rt: &HostRuntime, name: &[u8], error: io::Error) {
+    let _ = rt.stderr().write_all(b"plancheck: ");
+    input::fail(&rt.stderr(), name, error);
 }
 
-// Reads a named file; `-` is standard input. Where it can't, it says why, before the close that may change what errno tells.
-fn read(name: &[u8], src: &mut [u8]) -> Input
+// Opens a named file. (std's paths are UTF-8.)
+fn open(rt: &HostRuntime, name: &[u8]) -> io::Result<File> {
+    match str::from_utf8(name) {
+        Ok(path) => File::open(rt, path),
+        Err(_) => Err(io::Error::new(ErrorKind::InvalidFilename, "the name isn't UTF-8")),
+    }
+}
+
+// Reads a named file; `-` is standard input.
+fn read(rt: &HostRuntime, name: &[u8], src: &mut [u8]) -> Input
     ensures { IsPrefixLen result.count src.new }
 {
-    if check::same(name, b"-") {
-        let input = input::read_all(src);
-        if input.failed {
-            fail(name);
-        }
-        return input;
+    if name == b"-".as_slice() {
+        return input::read_all(rt, src);
     }
-    let fd = os::open_read(name);
-    if fd < 0 {
-        fail(name);
-        return Input {
+    match open(rt, name) {
+        Ok(mut file) => input::read_from(&mut file, src),
+        Err(error) => Input {
             count: 0,
-            failed: true,
-        };
+            failure: Some(error),
+        },
     }
-    let input = input::read_from(fd, src);
-    if input.failed {
-        fail(name);
-    }
-    libc::close(fd);
-    input
 }
 
 // Prints the line of a named file, if it can be read, and answers whether lines can still be written.
-fn judge_file(name: &[u8], src: &mut [u8]) -> bool
+fn judge_file(rt: &HostRuntime, name: &[u8], src: &mut [u8]) -> bool
     requires { length name.now ≤ longest_name }
 {
     if has_line_feed(name) {
-        io::write_all(
-            STDERR_FILENO,
-            b"plancheck: a name with a line feed has no line: ",
-        );
-        io::write_all(STDERR_FILENO, name);
-        io::write_all(STDERR_FILENO, b"\n");
+        let err = rt.stderr();
+        let _ = err.write_all(b"plancheck: a name with a line feed has no line: ");
+        let _ = err.write_all(name);
+        let _ = err.write_all(b"\n");
         return true;
     }
-    let input = read(name, src);
-    if input.failed {
+    let input = read(rt, name, src);
+    if let Some(error) = input.failure {
+        fail(rt, name, error);
         return true;
     }
     let n = input.count;
     let mut line = [0u8; MOST];
     let m = named(&src[..n], name, &mut line);
-    print(&line[..m])
+    print(rt, &line[..m])
 }
 
-// The same of the file that argument i names.
-fn judge_argument(i: usize, src: &mut [u8]) -> bool {
+// The same of the file that argument i names; where there is no such argument, there is no line to be written any more.
+fn judge_argument(rt: &HostRuntime, i: usize, src: &mut [u8]) -> bool {
     let mut name = [0u8; PATH_MAX];
-    let n = os::arg(i, &mut name);
-    if os::errno() != 0 {
-        fail(&name);
-        return true;
+    match rt.arg(i, &mut name) {
+        Ok(n) => judge_file(rt, &name[..n], src),
+        Err(FillError::TooLong) => {
+            fail(rt, &name, io::Error::from_raw_os_error(ENAMETOOLONG));
+            true
+        }
+        Err(FillError::NotPresent) => false,
     }
-    judge_file(&name[..n], src)
 }
 
 // The same of all arguments, of which the first is the program's name.
-fn judge_all(count: usize) {
+fn judge_all(rt: &HostRuntime) {
     let mut src = [0u8; ENOUGH];
-    let mut i: usize = 1;
-    while i < count && judge_argument(i, &mut src) {
-        i += 1;
+    for i in 1..usize::MAX {
+        if !judge_argument(rt, i, &mut src) {
+            break;
+        }
     }
 }
 
 // Prints the line of the case on standard input.
-fn judge_input() {
+fn judge_input(rt: &HostRuntime) {
     let mut src = [0u8; ENOUGH];
-    let input = input::read_all(&mut src);
-    if input.failed {
-        os::fail(b"plancheck: standard input");
+    let input = input::read_all(rt, &mut src);
+    if let Some(error) = input.failure {
+        fail(rt, b"standard input", error);
         return;
     }
     let n = input.count;
     let line = line_of(answer(&src[..n]));
     let bytes = line.bytes;
     let count = line.count;
-    print(&bytes[..count]);
+    print(rt, &bytes[..count]);
 }
 
-fn main() {
-    let count = os::arg_count();
-    if count < 2 {
-        judge_input();
+fn main(rt: HostRuntime) {
+    if let Err(FillError::NotPresent) = rt.arg(1, &mut []) {
+        judge_input(&rt);
     } else {
-        judge_all(count);
+        judge_all(&rt);
     }
 }

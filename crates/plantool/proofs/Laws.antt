@@ -1,21 +1,17 @@
--- What is printed into a buffer with room for it is at its start; and when no word is asked for. Assumes nothing.
+-- What is printed into a buffer with room for it is at its start. Assumes nothing.
 use mathlib.Core.Path.{◌≡◌, refl, ◌∙◌, sym, ap, ap₂}
 use mathlib.Core.List.{List, ◌++◌}
 use Prim.Native.Nat.{ℕ, ◌≤◌}
 use native.Mathlib.Omega.{arith}
 use lib.ListN.{length, take, drop, length-append}
 use lib.Seq.{take_at}
-use Rattle.number.specs.Numbers.{IsNumber}
-use Rattle.io.specs.Counts.{IsPrefixLen}
-use Rattle.io.proofs.Counting.{prefix_len_of_le}
+use Rattle.input.specs.Counts.{IsPrefixLen}
+use Rattle.input.proofs.Counting.{prefix_len_of_le}
 use Rattle.answers.specs.declared.Told.{Told}
 use Rattle.answers.specs.declared.Written.{Written}
 use Rattle.answers.specs.Answers.{written_numbers}
 use Rattle.writer.specs.Written.{written_of, buffer_after}
 use Rattle.writer.proofs.Items.{all_fits}
-use Rattle.plantool.specs.declared.Word.{Word}
-use Rattle.plantool.specs.declared.Word.TheVariants.{Fill, Rounds, Set}
-use Rattle.plantool.specs.Words.{AskedBy}
 
 -- out was printed into the buffer p₀, which is now p: the number that is told counts its bytes
 pub all_printed : (out p₀ : List ℕ) {w : Written} {p : List ℕ} {t : Told} → length out ≤ length p₀ →
@@ -27,20 +23,3 @@ all_printed out p₀ {w} {p} {t} h told bytes numbers =
       prefix_len_of_le _ _ (omega (arith, n, ap length b, length-append out (drop (length out) p₀))),
       ap₂ take n b ∙ take_at out (drop (length out) p₀) (length out) refl,
     )
-
--- no word is asked for
-abbrev pub NoneAsked : List ℕ → ℕ → List ℕ → List ℕ → Type 0
-NoneAsked bytes count first second = (w : Word) → AskedBy bytes count first second w → ⊥
-
--- by one number, where it is none
-pub none_by_one : (bytes : List ℕ) {count : ℕ} (first second : List ℕ) → count ≡ 1 → ((k : ℕ) → IsNumber first k → ⊥) → NoneAsked bytes count first second
-none_by_one bytes first second e h Fill a = omega (arith, e, a.1)
-none_by_one bytes first second e h (Rounds k) a = h k a.2
-none_by_one bytes first second e h (Set k n) a = omega (arith, e, a.1)
-
--- by two, where one of them is none
-pub none_by_two : (bytes : List ℕ) {count : ℕ} (first second : List ℕ) → count ≡ 2 → ((k n : ℕ) → IsNumber first k → IsNumber second n → ⊥) →
-    NoneAsked bytes count first second
-none_by_two bytes first second e h Fill a = omega (arith, e, a.1)
-none_by_two bytes first second e h (Rounds k) a = omega (arith, e, a.1)
-none_by_two bytes first second e h (Set k n) a = h k n a.2 a.3

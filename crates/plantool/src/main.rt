@@ -3,12 +3,13 @@
 #![tactic(auto)]
 
 ghost use Rattle.std.specs.Prelude.{◌≡◌, take};
-ghost use Rattle.io.specs.Counts.{IsPrefixLen};
+ghost use Rattle.input.specs.Counts.{IsPrefixLen};
 ghost use Rattle.plantool.specs.Words.{AskedRightly, printed};
 
 use casefile::ENOUGH;
-use libc::{STDERR_FILENO, STDOUT_FILENO};
 use number::Number;
+use std::env::FillError;
+use std::rt::Env;
 use tool::MOST;
 
 // A word of the tool, with its numbers.
@@ -37,16 +38,16 @@ enum Asked {
 fn asked_by(word: &[u8], count: usize, first: &[u8], second: &[u8]) -> Asked
     ensures { AskedRightly word.now count first.now second.now result }
 {
-    if count == 0 && check::same(word, b"fill") {
+    if count == 0 && word == b"fill".as_slice() {
         return Asked::For(Word::Fill);
     }
-    if count == 1 && check::same(word, b"rounds") {
+    if count == 1 && word == b"rounds".as_slice() {
         let Number::Is(k) = number::number_of(first) else {
             return Asked::Nothing;
         };
         return Asked::For(Word::Rounds(k));
     }
-    if count == 2 && check::same(word, b"set") {
+    if count == 2 && word == b"set".as_slice() {
         let Number::Is(k) = number::number_of(first) else {
             return Asked::Nothing;
         };
@@ -58,19 +59,31 @@ fn asked_by(word: &[u8], count: usize, first: &[u8], second: &[u8]) -> Asked
     Asked::Nothing
 }
 
+// How many arguments the program has, without its name.
+fn argument_count(rt: &HostRuntime) -> usize {
+    let mut count = 0;
+    for i in 1..usize::MAX {
+        if let Err(FillError::NotPresent) = rt.arg(i, &mut []) {
+            break;
+        }
+        count = i;
+    }
+    count
+}
+
 // What the program's arguments ask for. (The first is its name; one that is missing, or longer than a word or a number can be, is read as no bytes.)
-fn arguments() -> Asked {
-    let count = os::arg_count();
-    if count < 2 {
+fn arguments(rt: &HostRuntime) -> Asked {
+    let count = argument_count(rt);
+    if count < 1 {
         return Asked::Nothing;
     }
     let mut word = [0u8; Word::LONGEST];
-    let n = os::arg(1, &mut word);
+    let n = rt.arg(1, &mut word).unwrap_or(0);
     let mut first = [0u8; Number::LONGEST];
-    let a = os::arg(2, &mut first);
+    let a = rt.arg(2, &mut first).unwrap_or(0);
     let mut second = [0u8; Number::LONGEST];
-    let b = os::arg(3, &mut second);
-    asked_by(&word[..n], count - 2, &first[..a], &second[..b])
+    let b = rt.arg(3, &mut second).unwrap_or(0);
+    asked_by(&word[..n], count - 1, &first[..a], &second[..b])
 }
 
 // Puts what a word prints for a case file at the start of a buffer, and answers how many bytes it is.
@@ -87,28 +100,27 @@ fn run(word: Word, src: &[u8], buf: &mut [u8; MOST]) -> usize
 }
 
 // Reads a case file, and writes what a word prints for it.
-fn print(word: Word) {
+fn print(rt: &HostRuntime, word: Word) {
     let mut src = [0u8; ENOUGH];
-    let input = input::read_all(&mut src);
-    if input.failed {
-        os::fail(b"plantool: standard input");
+    let input = input::read_all(rt, &mut src);
+    if let Some(error) = input.failure {
+        input::fail(&rt.stderr(), b"plantool: standard input", error);
         return;
     }
     let n = input.count;
     let mut buf = [0u8; MOST];
     let m = run(word, &src[..n], &mut buf);
-    if !io::write_all(STDOUT_FILENO, &buf[..m]) {
-        os::fail(b"plantool: standard output");
+    if let Err(error) = rt.write_all(&buf[..m]) {
+        input::fail(&rt.stderr(), b"plantool: standard output", error);
     }
 }
 
-fn main() {
-    let Asked::For(word) = arguments() else {
-        io::write_all(
-            STDERR_FILENO,
-            b"plantool: usage: plantool fill | rounds L | set L N, with the case on standard input\n",
+fn main(rt: HostRuntime) {
+    let Asked::For(word) = arguments(&rt) else {
+        let _ = eprintln!(rt;
+            "plantool: usage: plantool fill | rounds L | set L N, with the case on standard input"
         );
         return;
     };
-    print(word);
+    print(&rt, word);
 }

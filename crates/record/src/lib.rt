@@ -88,7 +88,8 @@ fn read_token(part: &[u8], i: usize) -> Content
         }
         return read_number(part, j, true);
     }
-    if b == b'0' {
+    let is_zero = b == b'0';
+    if is_zero {
         let j = i + 1;
         if j == part.len() {
             return Content::Number(0);
@@ -104,7 +105,8 @@ fn read_number(part: &[u8], at: usize, neg: bool) -> Content
     ensures { result ≡ leading neg at (get_or part.now at 0) (drop (at + 1) part.now) }
 {
     let b = part[at];
-    if b < b'1' || b'9' < b {
+    let is_low = b < b'1';
+    if is_low || b'9' < b {
         return Content::Bad(at as u32);
     }
     read_digits(part, at + 1, neg, (b - b'0') as u32)

@@ -111,6 +111,7 @@ impl Loops {
 }
 
 // 26: field 2 filled at place 0, or blank later.
+#[tactic(auto, unfolding(crate::specs::Standing::way_answer))]
 fn way_answer(n: usize, row: Record) -> Answer
     ensures { result ≡ way_answer n row.fields }
 {
@@ -128,6 +129,7 @@ fn way_answer(n: usize, row: Record) -> Answer
 }
 
 // 25: a place after the endless loop has closed, or a loop mark that may not stand there.
+#[tactic(auto, unfolding(crate::specs::Standing::place_answer, crate::specs::Standing::mark_answer))]
 fn place_answer(loops: Loops, n: usize, row: Record) -> Answer
     requires { n ≤ room_of kind.Place }
     ensures { result ≡ place_answer loops n row.fields }
@@ -154,6 +156,7 @@ fn layout_answer(count: Counts, loops: Loops, kind: Kind, row: Record) -> Answer
 }
 
 // The results that come from the state, in order: 21, 22, 23 (absent: the lowest field that refers to nothing), 25, 26.
+#[tactic(auto, unfolding(crate::specs::Standing::there_answer, crate::specs::Standing::room_answer, crate::specs::Standing::order_answer, table::specs::Table::shape_of))]
 fn state_answer(count: Counts, loops: Loops, kind: Kind, row: Record, absent: usize) -> Answer
     requires { absent ≡ lowest_fault (fault.NotThere count) (shape_of kind row) row }
     ensures { result ≡ order_answer count loops (shape_of kind row) row }
@@ -171,6 +174,7 @@ fn state_answer(count: Counts, loops: Loops, kind: Kind, row: Record, absent: us
 }
 
 // The answer to a record of this kind, by the order of the tests.
+#[tactic(auto, unfolding(crate::specs::Standing::record_answer))]
 fn ordered_answer(count: Counts, loops: Loops, kind: Kind, row: Record) -> Answer
     ensures { result ≡ record_answer count loops kind row }
 {

@@ -106,6 +106,7 @@ fn between(low: i32, high: i32) -> Range
 }
 
 // The shape of a record of this kind.
+#[tactic(auto, unfolding(crate::specs::Table::shape_of))]
 pub fn shape_of(kind: Kind, row: Record) -> Shape
     ensures { result ≡ shape_of kind row }
 {
@@ -278,6 +279,7 @@ fn place_rule(filled: Filled, k: usize) -> Rule
 }
 
 // The rule of field k, counted from 1.
+#[tactic(auto, unfolding(crate::specs::Table::rule_at))]
 pub fn rule_at(shape: Shape, k: usize) -> Rule
     requires { 0 < k }
     ensures { result ≡ rule_at shape k }

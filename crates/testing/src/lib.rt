@@ -1,4 +1,4 @@
-// The answer to a file, what is held of it, and what is held written back, for tests and benchmarks in other languages.
+// The answer to a file, what is held of it, and what is held written back, for tests and benchmarks in other languages (by `testing_c`).
 #![tactic(auto)]
 
 ghost use Rattle.std.specs.Prelude.{◌≡◌, length};
@@ -23,8 +23,7 @@ pub fn held(src: &[u8]) -> Case
 }
 
 // The marks of one place after a file is taken. A benchmark reads them, so that the stores cannot be left out.
-#[unsafe(no_mangle)]
-pub extern "C" fn marks_held(src: &[u8], i: usize) -> u32
+pub fn marks_held(src: &[u8], i: usize) -> u32
     ensures { result ≡ marks_at (collected_of empty_case src.now).case i }
 {
     let case = held(src);
@@ -34,22 +33,19 @@ pub extern "C" fn marks_held(src: &[u8], i: usize) -> u32
 }
 
 // The three numbers of the answer to a file.
-#[unsafe(no_mangle)]
-pub extern "C" fn case_result(src: &[u8]) -> usize
+pub fn case_result(src: &[u8]) -> usize
     ensures { result ≡ (answer_of src.now).result }
 {
     casefile::answer(src).result
 }
 
-#[unsafe(no_mangle)]
-pub extern "C" fn case_second(src: &[u8]) -> usize
+pub fn case_second(src: &[u8]) -> usize
     ensures { result ≡ (answer_of src.now).second }
 {
     casefile::answer(src).second
 }
 
-#[unsafe(no_mangle)]
-pub extern "C" fn case_third(src: &[u8]) -> usize
+pub fn case_third(src: &[u8]) -> usize
     ensures { result ≡ (answer_of src.now).third }
 {
     casefile::answer(src).third
@@ -64,16 +60,14 @@ fn written(src: &[u8], buf: &mut [u8]) -> Told
 }
 
 // The same, for the first two of the numbers.
-#[unsafe(no_mangle)]
-pub extern "C" fn write_result(src: &[u8], buf: &mut [u8]) -> usize
+pub fn write_result(src: &[u8], buf: &mut [u8]) -> usize
     ensures value { result ≡ (written_numbers (written_of (file_held src.now) (length buf.old))).result }
     ensures buf_after { buf.new ≡ buffer_after (file_held src.now) buf.old }
 {
     written(src, buf).result
 }
 
-#[unsafe(no_mangle)]
-pub extern "C" fn write_count(src: &[u8], buf: &mut [u8]) -> usize
+pub fn write_count(src: &[u8], buf: &mut [u8]) -> usize
     ensures value { result ≡ (written_numbers (written_of (file_held src.now) (length buf.old))).second }
     ensures buf_after { buf.new ≡ buffer_after (file_held src.now) buf.old }
 {
@@ -81,8 +75,7 @@ pub extern "C" fn write_count(src: &[u8], buf: &mut [u8]) -> usize
 }
 
 // Writes what is held after a file n times over, so that a benchmark can tell the writing from the taking.
-#[unsafe(no_mangle)]
-pub extern "C" fn write_times(src: &[u8], buf: &mut [u8], n: usize)
+pub fn write_times(src: &[u8], buf: &mut [u8], n: usize)
     ensures { buf.new ≡ times n (buffer_after (file_held src.now)) buf.old }
 {
     let case = held(src);

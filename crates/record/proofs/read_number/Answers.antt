@@ -11,11 +11,11 @@ use Rattle.record.proofs.Steps.{is_digit, too_low, too_high, leading_more, leadi
 use Rattle.record.proofs.read_number.Goals as goal
 use Rattle.record.proofs.read_number.Goals.{Else-b-gt57}
 
-pub returns-then-b-lt49 : goal.returns-then-b-lt49
-returns-then-b-lt49 c =
+pub returns-then-is_low : goal.returns-then-is_low
+returns-then-is_low c =
     let a = c.args in
     let b = get_or a.part.now a.at 0 in
-    let none = ⊎_elim (λ w. too_low 1 b (omega (arith, w))) (λ w. too_high 1 b w.1) c.then-b-lt49.either in
+    let none = ⊎_elim (λ w. too_low 1 b (omega (arith, w))) (λ w. too_high 1 b w.1) c.then-is_low.either in
     sym (leading_bad _ _ _ _ none)
 
 -- the byte is a digit
@@ -31,4 +31,4 @@ read_digits-requires c =
     (search rules, (search rules, omega (arith, at_most c, pow_one i, pow_more i)))
 
 pub returns : goal.returns
-returns c = c.read_digits.ensures ∙ sym (leading_more _ _ _ _ (is_digit 1 _ c.if-b-lt49.false c.if-b-gt57.false))
+returns c = c.read_digits.ensures ∙ sym (leading_more _ _ _ _ (is_digit 1 _ c.if-is_low.false c.if-b-gt57.false))

@@ -8,7 +8,7 @@ use lib.ListN.{get_or, drop, drop_of_length-le}
 use Rattle.record.specs.Spelling.{content_from, negative, alone}
 use Rattle.record.proofs.Steps.{rest, first}
 use Rattle.record.proofs.read_token.Goals as goal
-use Rattle.record.proofs.read_token.Goals.{Start, Then-b-eq45, Then-b-eq48}
+use Rattle.record.proofs.read_token.Goals.{Start, Then-b-eq45, Then-is_zero}
 
 -- byte i is b; it is a minus; it is a 0
 at_byte : (c : Start) {b : ℕ} → let p = c.args.part.now in let i = c.args.i in
@@ -20,10 +20,10 @@ after_minus : (c : Then-b-eq45) → let a = c.args in
 unfolding content_from
 after_minus c = at_byte (goal.at.Then-b-eq45 c).Start c.if-b-eq45.true
 
-after-zero : (c : Then-b-eq48) → let a = c.args in
+after-zero : (c : Then-is_zero) → let a = c.args in
     content_from a.i (drop a.i a.part.now) ≡ alone a.i (drop (a.i + 1) a.part.now)
 unfolding content_from
-after-zero c = at_byte (goal.at.Then-b-eq48 c).Start c.if-b-eq48.true
+after-zero c = at_byte (goal.at.Then-is_zero c).Start c.if-is_zero.true
 
 pub returns-then-j-part : goal.returns-then-j-part
 unfolding negative
@@ -44,13 +44,13 @@ pub returns-then-j-part-2 : goal.returns-then-j-part-2
 unfolding alone
 returns-then-j-part-2 c =
     let i = c.args.i in
-    sym (after-zero (goal.at.returns-then-j-part-2 c).Then-b-eq48 ∙ ap (alone i) (drop_of_length-le _ {i = i + 1} (omega arith)))
+    sym (after-zero (goal.at.returns-then-j-part-2 c).Then-is_zero ∙ ap (alone i) (drop_of_length-le _ {i = i + 1} (omega arith)))
 
-pub returns-then-b-eq48 : goal.returns-then-b-eq48
+pub returns-then-is_zero : goal.returns-then-is_zero
 unfolding alone
-returns-then-b-eq48 c =
+returns-then-is_zero c =
     let i = c.args.i in
-    sym (after-zero (goal.at.returns-then-b-eq48 c).Then-b-eq48 ∙ ap (alone i) (rest _ (i + 1) (omega arith) refl))
+    sym (after-zero (goal.at.returns-then-is_zero c).Then-is_zero ∙ ap (alone i) (rest _ (i + 1) (omega arith) refl))
 
 pub read_number-requires-2 : goal.read_number-requires-2
 read_number-requires-2 c = (omega arith, search rules)
@@ -58,4 +58,4 @@ read_number-requires-2 c = (omega arith, search rules)
 pub returns : goal.returns
 returns c =
     let s = (goal.at.returns c).Start in
-    c.read_number-2.ensures ∙ sym (at_byte s refl ∙ first _ _ _ s.requires.1.1 c.if-b-eq45.false c.if-b-eq48.false)
+    c.read_number-2.ensures ∙ sym (at_byte s refl ∙ first _ _ _ s.requires.1.1 c.if-b-eq45.false c.if-is_zero.false)
