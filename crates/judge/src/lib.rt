@@ -27,6 +27,7 @@ pub fn finished(count: Counts, loops: Loops) -> bool
 }
 
 // 24, 31, 32 and 33, the first that applies, or 0.
+#[tactic(auto, using(crate::specs::Stages::wrong_start))]
 pub fn before_marks(c: Case, t: Tables) -> Judgement
     requires { (Sound c) × (t ≡ tables_of (items_of c)) }
     ensures { result ≡ before_marks (items_of c) (start_of (items_of c)) }

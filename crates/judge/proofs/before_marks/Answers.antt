@@ -8,7 +8,7 @@ use Rattle.rules_laws.specs.Held.{total_room}
 use Rattle.answers.specs.declared.Judgement.TheVariants.{Accepted, Unfinished}
 use Rattle.meaning.specs.Judged.{start_of}
 use Rattle.verdict.specs.Verdict.{before_marks}
-use Rattle.judge.specs.Stages.{or_unconnected, or_guard_fails, guards_answer, unfinished, wrong_start, started, is_finished_lem}
+use Rattle.judge.specs.Stages.{or_unconnected, or_guard_fails, guards_answer, unfinished, started, is_finished_lem}
 use Rattle.judge.proofs.before_marks.Goals as goal
 use Rattle.judge.proofs.before_marks.Goals.{After-guard_fails-guard, After-unconnected-way, Start}
 
@@ -21,7 +21,7 @@ module _ (c : After-unconnected-way) where
 
   by_way : before_marks x (start_of x) ≡ or_unconnected c.unconnected-way.result (guards_answer x)
   by_way =
-      started t.requires.0 c.finished.ensures c.if-not-finished.false c.if-first-ne0.false
+      started t.requires.0 c.finished.ensures c.if-not-finished.false (omega arith)
       ∙ ap (λ s. or_unconnected s (guards_answer x)) (sym c.unconnected-way.ensures)
 
 module _ (c : After-guard_fails-guard) where
@@ -41,10 +41,6 @@ total-requires c = omega (arith, total_room c.requires.0)
 pub returns-then-not-finished : goal.returns-then-not-finished
 returns-then-not-finished c =
     ap Unfinished c.total.ensures ∙ sym (unfinished c.requires.0 c.finished.ensures c.if-not-finished.true)
-
-pub returns-then-first-ne0 : goal.returns-then-first-ne0
-returns-then-first-ne0 c =
-    sym (wrong_start c.requires.0 c.finished.ensures c.if-not-finished.false c.if-first-ne0.true)
 
 pub returns-in-At : goal.returns-in-At
 returns-in-At c =
