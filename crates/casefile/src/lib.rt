@@ -26,7 +26,7 @@ pub fn refused(taken: usize, answer: Answer) -> Told
 // The answer to a file: the first refusal of a record, or else the judgement of the case.
 pub fn answer(bytes: &[u8]) -> Told
     ensures value { result ≡ answer_of bytes.now }
-    ensures value_2 { result ≡ answer_of (take ENOUGH bytes.now) }
+    ensures by_first_bytes { result ≡ answer_of (take ENOUGH bytes.now) }
 {
     let run = Case::empty().take_all(bytes);
     let answer = run.answer;

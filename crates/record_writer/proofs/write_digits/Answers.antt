@@ -8,7 +8,7 @@ pub loop-left-init : goal.loop-left-init
 loop-left-init c = digits_none _ _ c.requires.0 c.requires.1
 
 pub loop-left-preserved : goal.loop-left-preserved
-loop-left-preserved c = digits_more _ _ c.requires.0 c.requires.1 c.loop-left.invariant c.loop-left-test.true
+loop-left-preserved c = digits_more _ _ c.requires.0 c.requires.1 c.loop-left.invariant (omega arith)
 
 pub returns : goal.returns
 returns c = digits_done _ _ c.requires.0 c.requires.1 c.loop-left.invariant (omega arith)

@@ -23,7 +23,7 @@ module _ (c : After-write_digits-i) where
   room = omega (arith, put.ends, numeral_length (nat_abs c.args.x) (width - 2) below.small)
 
 pub overflow_sub-i : goal.overflow_sub-i
-overflow_sub-i c = room (goal.at.overflow_sub-i c).After-write_digits-i
+overflow_sub-i c = omega (arith, room (goal.at.overflow_sub-i c).After-write_digits-i)
 
 pub returns-then-x-lt0 : goal.returns-then-x-lt0
 returns-then-x-lt0 c =

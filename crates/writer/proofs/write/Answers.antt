@@ -31,7 +31,7 @@ module _ (c : After-at-kind) where
 
   -- its record has room
   sized : c.loop-rank.at + record_length ≤ counts_total c.args.c.count * record_length
-  sized = upto_room c.requires c.loop-rank.invariant.1 c.loop-rank-test.true there
+  sized = upto_room c.requires c.loop-rank.invariant.1 (omega arith) there
 
   room : c.loop-rank.at + record_length ≤ length c.args.buf.now
   room = omega (arith, sized, c.if-buf-size.false, c.total-size.ensures)
@@ -51,7 +51,7 @@ module _ (c : After-at-kind) where
     written d b q f g =
         let j : k ≡ kind_at c.loop-rank.rank = sym e ∙ c.at-kind.ensures in
         rw f
-        (upto_item c.requires c.loop-rank.invariant.1 q c.loop-rank-test.true there room
+        (upto_item c.requires c.loop-rank.invariant.1 q (omega arith) there room
         (subst (λ m. q ≡ item_bytes m (item_at c.args.c m c.loop-rank.i) ++ drop record_length (lent c.loop-rank.at c.loop-rank.buf)) j
         (g ∙ ap (λ z. item_bytes k z ++ drop record_length (lent c.loop-rank.at c.loop-rank.buf)) (array_item c.requires k _ held d))))
 
@@ -109,13 +109,13 @@ loop-rank-preserved-then-i-n c =
 pub loop-rank-preserved : goal.loop-rank-preserved
 loop-rank-preserved c = (
   c.of-n-else-i-n.ensures ∙ ap (count_of c.args.c.count) c.at.ensures,
-  upto_kind c.requires c.loop-rank.invariant.1 c.loop-rank-test.true (omega (arith, c.if-i-n.false, c.loop-rank.invariant.0)),
+  upto_kind c.requires c.loop-rank.invariant.1 (omega arith) (omega (arith, c.if-i-n.false, c.loop-rank.invariant.0)),
 )
 
 pub returns : goal.returns
 returns c =
     let file = file_of (items_of c.args.c) in
-    let done = upto_all c.requires c.loop-rank.invariant.1 c.loop-rank-test.false in
+    let done = upto_all c.requires c.loop-rank.invariant.1 (omega arith) in
     let e : c.total-size.result * record_length ≡ length file = ap (λ m. m * record_length) c.total-size.ensures ∙ sym (file_long c.requires) in
     let f = all_fits file c.args.buf.now (omega (arith, e, c.if-buf-size.false)) in
     record { value = ap All e ∙ f.0; buf_after = done.bytes ∙ ap (λ m. file ++ drop m c.args.buf.now) (sym done.size) ∙ f.1 }
