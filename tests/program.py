@@ -34,6 +34,8 @@ UNREAD = {
     "n" * 256: errno.ENAMETOOLONG,
     "./" * (PATH_MAX // 2): errno.ENAMETOOLONG,
 }
+# Names that are not UTF-8, which the program can't open.
+NO_TEXT = ["caf\xe9", "\xff"]
 
 
 def answered(command, data):
@@ -113,7 +115,7 @@ def stored_at_once(tally, command, folder, cases):
 
 def names_of_all_sorts(tally, command, folder):
     """Names, each alone and all in order; the longest is one that a path can just have."""
-    names = ["plain", "two words", "-x", "--", " ", "tab\t", "caf\xe9", "\xff", "0 0 0 plain", "./-", "./" * (PATH_MAX // 2 - 3) + "plain"]
+    names = ["plain", "two words", "-x", "--", " ", "tab\t", "caf\xc3\xa9", "0 0 0 plain", "./-", "./" * (PATH_MAX // 2 - 3) + "plain"]
     for name in names:
         (folder / os.fsdecode(name.encode("latin-1"))).write_bytes(TWELVE)
         tally.equal(f"the name {name[:20]!r}", (lines([name]), ""), told(command, folder, [name]))
@@ -145,6 +147,10 @@ def unread(tally, command, folder):
     (folder / "two\nlines").write_bytes(TWELVE)
     want = (beside, "plancheck: a name with a line feed has no line: two\nlines\n")
     tally.equal("a name of two lines", want, told(command, folder, ["plain", "two\nlines", "plain"]))
+    for name in NO_TEXT:
+        (folder / os.fsdecode(name.encode("latin-1"))).write_bytes(TWELVE)
+        want = (beside, f"plancheck: {name}: the name isn't UTF-8\n")
+        tally.equal(f"the name {name!r}", want, told(command, folder, ["plain", name, "plain"]))
     tally.equal("no file at all", ("", f"plancheck: absent: {os.strerror(errno.ENOENT)}\n"), told(command, folder, ["absent"]))
 
 

@@ -118,6 +118,10 @@ def several(tally, folder, path):
         ("none is there", (2, "", absent + is_folder), ["absent", "."]),
     ):
         tally.equal(f"several: {what}", want, run(WRAPPER, *words, **here))
+    for name in (b"caf\xe9", b"caf\xc3\xa9"):
+        (folder / os.fsdecode(name)).write_bytes(TWELVE)
+        want = (0, f"{good}0 0 0 {name.decode('latin-1')}\n{good}", "")
+        tally.equal(f"several: the name {name}", want, run(WRAPPER, "plain", name, "plain", **here))
     tally.equal("several: standard input", (0, good + "0 0 0 -\n", ""), run(WRAPPER, "plain", "-", input=TWELVE, **here))
     status, lines, message = run(WRAPPER, "plain", "line\nfeed", "plain", **here)
     tally.equal("several: a name with a line feed that is absent", (2, good * 2, says("plancheck", r"cannot read 'line\nfeed'", NO_FILE)), (status, lines, message))

@@ -1,10 +1,12 @@
-// A file, as standard input, read into a lent buffer: what the programs share. What comes of a read is known as far as the reader says what it has.
+// A file, as standard input, read into a lent buffer, and what is said where that fails: what the programs share.
 #![tactic(auto)]
 
-ghost use Rattle.std.specs.Prelude.{◌≡◌, ◌<◌, length, take, None};
+ghost use Rattle.std.specs.Prelude.{◌≢◌, IfErr, IfSome};
+ghost use Rattle.std.specs.IoError.{error_kind};
 ghost use Rattle.std.specs.Io.{ReadsAtMost, StartsWith};
-ghost use Rattle.std.specs.Io.KnownBytes.{Consumes, IsAtEnd, ReadConsumes};
+ghost use Rattle.std.specs.Io.KnownBytes.{ReadConsumes};
 ghost use Rattle.input.specs.Counts.{IsPrefixLen};
+ghost use Rattle.input.specs.Reading.{HasRead};
 
 use std::fmt::InlineText;
 use std::io;
@@ -21,6 +23,7 @@ pub struct Input {
 fn read<R: Read>(reader: &mut R, part: &mut [u8]) -> io::Result<usize>
     ensures bound { ReadsAtMost result part.new }
     ensures bytes { ReadConsumes (R.remaining reader.old) (R.remaining reader.new) result part.new }
+    ensures retried { IfErr result (λ e. error_kind e ≢ ErrorKind.Interrupted) }
 {
     for _ in 0..u64::MAX {
         match reader.read(part) {
@@ -32,14 +35,14 @@ fn read<R: Read>(reader: &mut R, part: &mut [u8]) -> io::Result<usize>
             }
         }
     }
-    reader.read(part)
+    Err(io::Error::from(ErrorKind::TimedOut))
 }
 
 // Reads until buf is full, the reader is at its end or a read fails.
 pub fn read_from<R: Read>(reader: &mut R, buf: &mut [u8]) -> Input
     ensures prefix_len { IsPrefixLen result.count buf.new }
-    ensures bytes { Consumes (R.remaining reader.old) (R.remaining reader.new) (take result.count buf.new) }
-    ensures end { result.failure ≡ None → result.count < length buf.new → IsAtEnd (R.remaining reader.new) }
+    ensures read { HasRead (R.remaining reader.old) (R.remaining reader.new) result buf.new }
+    ensures retried { IfSome result.failure (λ e. error_kind e ≢ ErrorKind.Interrupted) }
 {
     let mut count = 0;
     while count < buf.len() {
@@ -60,9 +63,11 @@ pub fn read_from<R: Read>(reader: &mut R, buf: &mut [u8]) -> Input
     }
 }
 
-// The same of standard input.
-pub fn read_all(rt: &impl io::Input, buf: &mut [u8]) -> Input
-    ensures { IsPrefixLen result.count buf.new }
+// The same of standard input: a reader of it had these bytes next.
+pub fn read_all<R: io::Input>(rt: &R, buf: &mut [u8]) -> Input
+    ensures prefix_len { IsPrefixLen result.count buf.new }
+    ensures read { (old : R.Reader) × (new : R.Reader) × HasRead (R.Reader.remaining old) (R.Reader.remaining new) result buf.new }
+    ensures retried { IfSome result.failure (λ e. error_kind e ≢ ErrorKind.Interrupted) }
 {
     read_from(&mut rt.reader(), buf)
 }
