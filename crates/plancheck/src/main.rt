@@ -66,12 +66,14 @@ fn has_line_feed(name: &[u8]) -> bool
     false
 }
 
-// Writes a line, and answers whether all of it was written; where it wasn't, it says why.
+// Writes a line, and answers whether all of it was written; where it wasn't, it says why, but for a reader that has enough.
 fn print(rt: &HostRuntime, line: &[u8]) -> bool {
     match rt.write_all(line) {
         Ok(()) => true,
         Err(error) => {
-            input::fail(&rt.stderr(), b"plancheck: standard output", error);
+            if error.kind() != ErrorKind::BrokenPipe {
+                input::fail(&rt.stderr(), b"plancheck: standard output", error);
+            }
             false
         }
     }

@@ -9,6 +9,7 @@ ghost use Rattle.plantool.specs.Words.{AskedRightly, printed};
 use casefile::ENOUGH;
 use number::Number;
 use std::env::FillError;
+use std::io::ErrorKind;
 use std::rt::Env;
 use tool::MOST;
 
@@ -99,7 +100,7 @@ fn run(word: Word, src: &[u8], buf: &mut [u8; MOST]) -> usize
     written.told().second
 }
 
-// Reads a case file, and writes what a word prints for it.
+// Reads a case file, and writes what a word prints for it; where it can't, it says why, but for a reader that has enough.
 fn print(rt: &HostRuntime, word: Word) {
     let mut src = [0u8; ENOUGH];
     let input = input::read_all(rt, &mut src);
@@ -111,7 +112,9 @@ fn print(rt: &HostRuntime, word: Word) {
     let mut buf = [0u8; MOST];
     let m = run(word, &src[..n], &mut buf);
     if let Err(error) = rt.write_all(&buf[..m]) {
-        input::fail(&rt.stderr(), b"plantool: standard output", error);
+        if error.kind() != ErrorKind::BrokenPipe {
+            input::fail(&rt.stderr(), b"plantool: standard output", error);
+        }
     }
 }
 
