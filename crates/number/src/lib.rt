@@ -20,7 +20,8 @@ pub fn number_of(bytes: &[u8]) -> Number
     ensures { ReadRightly bytes.now result }
 {
     let count = bytes.len();
-    if count < 1 || Number::LONGEST < count {
+    let is_empty = count < 1;
+    if is_empty || Number::LONGEST < count {
         return Number::Not;
     }
     if 1 < count && bytes[0] == b'0' {

@@ -49,7 +49,8 @@ impl Line {
         ensures value { result ≡ with_bytes self (numeral n) }
         ensures count_value { result.count ≡ self.count + length (numeral n) }
     {
-        if n < 10 {
+        let is_digit = n < 10;
+        if is_digit {
             return self.with_digit(n);
         }
         self.with_number(n / 10).with_digit(n)

@@ -20,7 +20,8 @@ pub fn write(c: Case, buf: &mut [u8]) -> Written
 {
     let count = c.count;
     let size = count.total() * Record::LENGTH;
-    if buf.len() < size {
+    let is_short = buf.len() < size;
+    if is_short {
         return Written::TooShort;
     }
     let mut at: usize = 0;

@@ -5,8 +5,8 @@ use Rattle.number.proofs.Laws.{number_digit, number_long, no_leading, Spelled, s
 use Rattle.number.proofs.number_of.Goals as goal
 
 -- no number has so few bytes, or so many
-pub returns-then-count-lt1 : goal.returns-then-count-lt1
-returns-then-count-lt1 c n is = let k = number_long c.args.bytes.now n is in grind (arith, k.0, k.1)
+pub returns-then-is_empty : goal.returns-then-is_empty
+returns-then-is_empty c n is = let k = number_long c.args.bytes.now n is in grind (arith, k.0, k.1)
 
 pub returns-then-bytes-eq48 : goal.returns-then-bytes-eq48
 returns-then-bytes-eq48 c n is = no_leading c.args.bytes.now n is (omega arith) c.if-bytes-eq48.true

@@ -34,7 +34,7 @@ module _ (c : After-at-kind) where
   sized = upto_room c.requires c.loop-rank.invariant.1 (omega arith) there
 
   room : c.loop-rank.at + record_length ≤ length c.args.buf.now
-  room = omega (arith, sized, c.if-buf-size.false, c.total-size.ensures)
+  room = omega (arith, sized, c.total-size.ensures)
 
   module _ (k : Kind) (e : c.at-kind.result ≡ k) where
     held : c.loop-rank.i < count_of c.args.c.count k
@@ -63,9 +63,9 @@ pub overflow_mul-size : goal.overflow_mul-size
 unfolding sum_over
 overflow_mul-size c = omega (arith, total_room c.requires, c.total-size.ensures)
 
-pub returns-then-buf-size : goal.returns-then-buf-size
-returns-then-buf-size c =
-    let t = too_short (file_of (items_of c.args.c)) c.args.buf.now (omega (arith, file_long c.requires, c.if-buf-size.true, c.total-size.ensures)) in
+pub returns-then-is_short : goal.returns-then-is_short
+returns-then-is_short c =
+    let t = too_short (file_of (items_of c.args.c)) c.args.buf.now (omega (arith, file_long c.requires, c.total-size.ensures)) in
     record { value = t.0; buf_after = t.1 }
 
 pub loop-rank-init : goal.loop-rank-init
@@ -117,5 +117,5 @@ returns c =
     let file = file_of (items_of c.args.c) in
     let done = upto_all c.requires c.loop-rank.invariant.1 (omega arith) in
     let e : c.total-size.result * record_length ≡ length file = ap (λ m. m * record_length) c.total-size.ensures ∙ sym (file_long c.requires) in
-    let f = all_fits file c.args.buf.now (omega (arith, e, c.if-buf-size.false)) in
+    let f = all_fits file c.args.buf.now (omega (arith, e)) in
     record { value = ap All e ∙ f.0; buf_after = done.bytes ∙ ap (λ m. file ++ drop m c.args.buf.now) (sym done.size) ∙ f.1 }

@@ -17,12 +17,12 @@ longer n h = ap length (more_digits n h) ∙ length-append (numeral (n / 10)) (d
 pub with_digit-requires : goal.with_digit-requires
 with_digit-requires t c = omega (arith, short c.args.n (omega arith))
 
-pub returns-then-n-lt10-clause-value : goal.returns-then-n-lt10-clause-value
+pub returns-then-is_digit-clause-value : goal.returns-then-is_digit-clause-value
 unfolding with_bytes
-returns-then-n-lt10-clause-value t c = rw (one_digit c.args.n (omega arith)) c.with_digit.ensures.value
+returns-then-is_digit-clause-value t c = rw (one_digit c.args.n (omega arith)) c.with_digit.ensures.value
 
-pub returns-then-n-lt10-clause-count_value : goal.returns-then-n-lt10-clause-count_value
-returns-then-n-lt10-clause-count_value t c = omega (arith, short c.args.n (omega arith))
+pub returns-then-is_digit-clause-count_value : goal.returns-then-is_digit-clause-count_value
+returns-then-is_digit-clause-count_value t c = omega (arith, short c.args.n (omega arith))
 
 pub with_number-requires : goal.with_number-requires
 with_number-requires t c =
