@@ -31,7 +31,8 @@ use Rattle.fill.specs.Says.{FillSays}
 use Rattle.fill.specs.Theorems.{fill_answers, filled_sound, filled_right, filled_accepted}
 use Rattle.loops_laws.specs.File.{Respelled, respelled, respelled_other}
 use Rattle.loops.specs.Planned.{set_case}
-use Rattle.loops.specs.Theorems.{accepted_span, set_answers, set_items}
+use Rattle.loops.proofs.SetTheorems.{set_answers, set_items}
+use Rattle.loops.specs.Theorems.{accepted_span}
 use Rattle.output.specs.Line.{line_of}
 use Rattle.product.specs.Product.{product_of}
 use Rattle.casefile.specs.Taken.{case_is}
