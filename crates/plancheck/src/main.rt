@@ -58,7 +58,8 @@ fn has_line_feed(name: &[u8]) -> bool
 {
     let mut i: usize = 0;
     while i < name.len() {
-        if name[i] == b'\n' {
+        let is_feed = name[i] == b'\n';
+        if is_feed {
             return true;
         }
         i += 1;
