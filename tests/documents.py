@@ -23,14 +23,15 @@ ALWAYS = {"laws"}  # the general laws
 
 
 def absent_files(name):
-    """The files that a document names and that aren't there; a bare name is of the folder named before it, in its paragraph or table row."""
+    """The files that a document names and that aren't there; a bare name is of the folder named before it, in its paragraph or table row. In a folder F they are
+    those of any function."""
     for paragraph in re.split(r"\n\n|\n\|", (ROOT / name).read_text()):
         row = ROW.match(paragraph)
         crate, folder = row[1] if row else None, None
         for found in PATH.finditer(paragraph):
             crate, folder = found["crate"] or crate, found["folder"] or folder
             file = found["file"] or found["more"]
-            if folder and not (CRATES / str(crate) / folder / file).is_file():
+            if folder and not file.startswith("F/") and not (CRATES / str(crate) / folder / file).is_file():
                 yield f"{name}: no file {crate}/{folder}/{file}"
 
 
