@@ -118,7 +118,7 @@ def several(tally, folder, path):
         ("none is there", (2, "", absent + is_folder), ["absent", "."]),
     ):
         tally.equal(f"several: {what}", want, run(WRAPPER, *words, **here))
-    for name in (b"caf\xe9", b"caf\xc3\xa9"):
+    for name in (b"caf\xe9", b"\xff", b"caf\xc3\xa9"):
         (folder / os.fsdecode(name)).write_bytes(TWELVE)
         want = (0, f"{good}0 0 0 {name.decode('latin-1')}\n{good}", "")
         tally.equal(f"several: the name {name}", want, run(WRAPPER, "plain", name, "plain", **here))

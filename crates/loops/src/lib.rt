@@ -201,7 +201,8 @@ fn setting(c: Case, k: usize, n: usize) -> Setting
         return Setting::Unfinished(total);
     }
     let p = loop_at(c, k);
-    if rounds_at(c, p) == 0 {
+    let is_none = rounds_at(c, p) == 0;
+    if is_none {
         return Setting::NoLoop(k);
     }
     if may_have(n) {
