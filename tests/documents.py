@@ -11,7 +11,8 @@ from cases import ROOT
 CRATES = ROOT / "crates"
 PATH = re.compile(r"`(?:crates/)?(?:(?P<crate>\w+)/)?(?P<folder>specs|src|proofs)/(?P<file>[\w/]+\.(?:antt|rt))`|`(?P<more>\w+\.antt)`")
 ROW = re.compile(r"[| ]*`(\w+)` \|")
-ITEM = re.compile(r'^(?:impl (\w+)|\s*pub (?:extern "C" )?fn (\w+))', re.MULTILINE)
+# An impl, of a trait or of a type's own, and a function; those of a trait's impl are public without saying so.
+ITEM = re.compile(r'^(?:impl (.* for )?(\w+)|\s*(pub )?(?:extern "C" )?fn (\w+))')
 # What the crates of each part of README's map may stand on, besides their own part.
 MAY = {
     "What must be believed": [],
@@ -69,13 +70,13 @@ def misplaced():
 def public_functions():
     """crate::name, or crate::Type::name, of each function that other crates can call."""
     for file in sorted(CRATES.glob("*/src/*.rt")):
-        kind = ""
+        kind, trait = "", None
         for line in file.read_text().splitlines():
             found = ITEM.match(line)
-            if found and found[1]:
-                kind = found[1] + "::"
-            elif found and file.name == "lib.rt":
-                yield f"{file.parts[-3]}::{kind if line.startswith(' ') else ''}{found[2]}"
+            if found and found[2]:
+                kind, trait = found[2] + "::", found[1]
+            elif found and file.name == "lib.rt" and (found[3] or line.startswith(" ") and trait):
+                yield f"{file.parts[-3]}::{kind if line.startswith(' ') else ''}{found[4]}"
 
 
 def spread(cell, mark):

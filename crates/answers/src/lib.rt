@@ -3,14 +3,13 @@
 #![tactic(auto)]
 
 ghost use Rattle.std.specs.Prelude.{◌≡◌};
-ghost use Rattle.answers.specs.Answers.{is_taken, number_of, third_of, numbers, numbers_of, filling_numbers, span_numbers, is_set, setting_numbers, written_numbers};
+ghost use Rattle.answers.specs.Answers.{number_of, third_of, numbers, numbers_of, filling_numbers, span_numbers, setting_numbers, written_numbers};
 
 use items::PlaceNo;
 
-// What a record is answered; with a field, counted from 1, where one is named, and for a field that is misspelled the place of its bad byte in the record.
+// Why a record is refused; with a field, counted from 1, where one is named, and for a field that is misspelled the place of its bad byte in the record.
 #[derive(Clone, Copy)]
-pub enum Answer {
-    Taken,
+pub enum Refusal {
     NotARecord,
     NoLineFeed,
     NoSuchKind,
@@ -24,11 +23,9 @@ pub enum Answer {
     WrongWayIn,
 }
 
-// The answer of a judgement, one for each result of document 01.
+// Why a plan isn't accepted, one for each result of document 01 but 0.
 #[derive(Clone, Copy)]
-pub enum Judgement {
-    // 0
-    Accepted,
+pub enum Rejection {
     // 24: no sentence, or the endless loop hasn't closed; the number of records held
     Unfinished(usize),
     // 31
@@ -43,33 +40,27 @@ pub enum Judgement {
     RootUnmarked(u8),
 }
 
-// What filling in the marks tells.
+// Why the marks aren't filled in.
 #[derive(Clone, Copy)]
-pub enum Filling {
-    // 0: every sentence is marked, at every place, as it is there
-    Marked,
+pub enum NotFilled {
     // 24, 31, 32 and 33, as in judging
-    Refused(Judgement),
+    Refused(Rejection),
     // 37: the place, and the sentence whose truth changes between its rounds
     Changes(PlaceNo, u8),
 }
 
-// What finding the rounds tells that a loop may have.
+// Why no rounds are found.
 #[derive(Clone, Copy)]
-pub enum Span {
-    // 0: the least and the greatest that are accepted
-    Between(u32, u32),
+pub enum NoSpan {
     // the judgement's own result, of a case that isn't accepted
-    Refused(Judgement),
+    Refused(Rejection),
     // 27: the loop, which is absent or endless
     NoLoop(usize),
 }
 
-// What setting a loop's rounds tells.
+// Why a loop's rounds aren't set.
 #[derive(Clone, Copy)]
-pub enum Setting {
-    // 0: they are set
-    Set,
+pub enum NotSet {
     // 24, as in judging: the number of records held
     Unfinished(usize),
     // 27: the loop, which is absent or endless
@@ -78,12 +69,10 @@ pub enum Setting {
     OutOfRange(usize),
 }
 
-// What writing a case back tells.
+// Why nothing is written.
 #[derive(Clone, Copy)]
-pub enum Written {
-    // 0: all of it, in so many bytes
-    All(usize),
-    // 41: nothing, the buffer is shorter than the case
+pub enum WriteError {
+    // 41: the buffer is shorter than what is to be written
     TooShort,
 }
 
@@ -95,204 +84,139 @@ pub struct Told {
     pub third: usize,
 }
 
-impl Answer {
-    // Document 01's number of an answer.
-    pub fn number(self) -> u8
-        ensures { result ≡ number_of self }
-    {
-        match self {
-            Answer::Taken => 0,
-            Answer::NotARecord => 11,
-            Answer::NoLineFeed => 12,
-            Answer::NoSuchKind => 13,
-            Answer::Misspelled(_) => 14,
-            Answer::Misfilled(_) => 15,
-            Answer::OutOfRange(_) => 16,
-            Answer::OutOfOrder => 21,
-            Answer::NoRoom => 22,
-            Answer::NotThere(_) => 23,
-            Answer::Misplaced(_) => 25,
-            Answer::WrongWayIn => 26,
-        }
-    }
+impl From<Rejection> for NotFilled {
+    ghost use Rattle.answers.specs.declared.NotFilled.TheVariants.{Refused};
 
-    // The third number of an answer: the byte or the field that it names; 0 where it names none.
-    pub fn third(self) -> usize
-        ensures { result ≡ third_of self }
-    {
-        match self {
-            Answer::Taken => 0,
-            Answer::NotARecord => 0,
-            Answer::NoLineFeed => 0,
-            Answer::NoSuchKind => 0,
-            Answer::Misspelled(byte) => byte,
-            Answer::Misfilled(field) => field,
-            Answer::OutOfRange(field) => field,
-            Answer::OutOfOrder => 0,
-            Answer::NoRoom => 0,
-            Answer::NotThere(field) => field,
-            Answer::Misplaced(field) => field,
-            Answer::WrongWayIn => 2,
-        }
+    ghost from_gives = { λ rejection filling. filling ≡ Refused rejection };
+
+    fn from(rejection: Rejection) -> NotFilled {
+        NotFilled::Refused(rejection)
     }
 }
 
-// Whether an answer says that the record is taken.
-pub fn is_taken(answer: Answer) -> bool
-    ensures { result ≡ is_taken answer }
+impl From<Rejection> for NoSpan {
+    ghost use Rattle.answers.specs.declared.NoSpan.TheVariants.{Refused};
+
+    ghost from_gives = { λ rejection span. span ≡ Refused rejection };
+
+    fn from(rejection: Rejection) -> NoSpan {
+        NoSpan::Refused(rejection)
+    }
+}
+
+// Document 01's number of what a record is answered.
+pub fn number(answer: Result<(), Refusal>) -> u8
+    ensures { result ≡ number_of answer }
 {
     match answer {
-        Answer::Taken => true,
-        Answer::NotARecord => false,
-        Answer::NoLineFeed => false,
-        Answer::NoSuchKind => false,
-        Answer::Misspelled(_) => false,
-        Answer::Misfilled(_) => false,
-        Answer::OutOfRange(_) => false,
-        Answer::OutOfOrder => false,
-        Answer::NoRoom => false,
-        Answer::NotThere(_) => false,
-        Answer::Misplaced(_) => false,
-        Answer::WrongWayIn => false,
+        Ok(()) => 0,
+        Err(Refusal::NotARecord) => 11,
+        Err(Refusal::NoLineFeed) => 12,
+        Err(Refusal::NoSuchKind) => 13,
+        Err(Refusal::Misspelled(_)) => 14,
+        Err(Refusal::Misfilled(_)) => 15,
+        Err(Refusal::OutOfRange(_)) => 16,
+        Err(Refusal::OutOfOrder) => 21,
+        Err(Refusal::NoRoom) => 22,
+        Err(Refusal::NotThere(_)) => 23,
+        Err(Refusal::Misplaced(_)) => 25,
+        Err(Refusal::WrongWayIn) => 26,
     }
 }
 
-impl Judgement {
-    // The three numbers of a judgement.
-    pub fn told(self) -> Told
-        ensures { result ≡ numbers_of self }
-    {
-        match self {
-            Judgement::Accepted => Told {
-                result: 0,
-                second: 0,
-                third: 0,
-            },
-            Judgement::Unfinished(n) => Told {
-                result: 24,
-                second: n,
-                third: 0,
-            },
-            Judgement::WrongStart => Told {
-                result: 31,
-                second: 0,
-                third: 0,
-            },
-            Judgement::Unconnected(p, t) => Told {
-                result: 32,
-                second: p.0,
-                third: t as usize,
-            },
-            Judgement::GuardFails(p, g) => Told {
-                result: 33,
-                second: p.0,
-                third: g as usize,
-            },
-            Judgement::WrongMark(p, i) => Told {
-                result: 34,
-                second: p.0,
-                third: i as usize,
-            },
-            Judgement::RootUnmarked(r) => Told {
-                result: 35,
-                second: 0,
-                third: r as usize,
-            },
-        }
+// The third number of it: the byte or the field that it names; 0 where it names none.
+pub fn third(answer: Result<(), Refusal>) -> usize
+    ensures { result ≡ third_of answer }
+{
+    match answer {
+        Err(Refusal::Misspelled(byte)) => byte,
+        Err(
+            Refusal::Misfilled(field)
+            | Refusal::OutOfRange(field)
+            | Refusal::NotThere(field)
+            | Refusal::Misplaced(field),
+        ) => field,
+        Err(Refusal::WrongWayIn) => 2,
+        _ => 0,
     }
 }
 
-impl Filling {
-    // The three numbers of filling in the marks.
-    pub fn told(self) -> Told
-        ensures { result ≡ filling_numbers self }
-    {
-        match self {
-            Filling::Marked => Judgement::Accepted.told(),
-            Filling::Refused(judgement) => judgement.told(),
-            Filling::Changes(p, i) => Told {
-                result: 37,
-                second: p.0,
-                third: i as usize,
-            },
-        }
-    }
-}
-
-// The three numbers of the least and the greatest rounds that are accepted.
-fn accepted(least: u32, greatest: u32) -> Told
-    ensures { result ≡ numbers 0 least greatest }
+// Three numbers.
+fn numbers(first: usize, second: usize, third: usize) -> Told
+    ensures { result ≡ numbers first second third }
 {
     Told {
-        result: 0,
-        second: least as usize,
-        third: greatest as usize,
+        result: first,
+        second,
+        third,
     }
 }
 
-impl Span {
-    // The three numbers of finding the rounds that a loop may have.
-    pub fn told(self) -> Told
-        ensures { result ≡ span_numbers self }
-    {
-        match self {
-            Span::Between(least, greatest) => accepted(least, greatest),
-            Span::Refused(judgement) => judgement.told(),
-            Span::NoLoop(k) => Told {
-                result: 27,
-                second: k,
-                third: 0,
-            },
+// The numbers of a judgement.
+impl From<Result<(), Rejection>> for Told {
+    ghost from_gives = { λ judgement told. told ≡ numbers_of judgement };
+
+    fn from(judgement: Result<(), Rejection>) -> Told {
+        match judgement {
+            Ok(()) => numbers(0, 0, 0),
+            Err(Rejection::Unfinished(n)) => numbers(24, n, 0),
+            Err(Rejection::WrongStart) => numbers(31, 0, 0),
+            Err(Rejection::Unconnected(p, t)) => numbers(32, p.0, usize::from(t)),
+            Err(Rejection::GuardFails(p, g)) => numbers(33, p.0, usize::from(g)),
+            Err(Rejection::WrongMark(p, i)) => numbers(34, p.0, usize::from(i)),
+            Err(Rejection::RootUnmarked(r)) => numbers(35, 0, usize::from(r)),
         }
     }
 }
 
-impl Setting {
-    // Whether the rounds are set.
-    pub fn is_set(self) -> bool
-        ensures { result ≡ is_set self }
-    {
-        match self {
-            Setting::Set => true,
-            Setting::Unfinished(_) => false,
-            Setting::NoLoop(_) => false,
-            Setting::OutOfRange(_) => false,
-        }
-    }
+// The numbers of filling in the marks.
+impl From<Result<(), NotFilled>> for Told {
+    ghost from_gives = { λ filling told. told ≡ filling_numbers filling };
 
-    // The three numbers of setting a loop's rounds.
-    pub fn told(self) -> Told
-        ensures { result ≡ setting_numbers self }
-    {
-        match self {
-            Setting::Set => Judgement::Accepted.told(),
-            Setting::Unfinished(n) => Judgement::Unfinished(n).told(),
-            Setting::NoLoop(k) => Span::NoLoop(k).told(),
-            Setting::OutOfRange(r) => Told {
-                result: 16,
-                second: r,
-                third: 5,
-            },
+    fn from(filling: Result<(), NotFilled>) -> Told {
+        match filling {
+            Ok(()) => numbers(0, 0, 0),
+            Err(NotFilled::Refused(rejection)) => Told::from(Err(rejection)),
+            Err(NotFilled::Changes(p, i)) => numbers(37, p.0, usize::from(i)),
         }
     }
 }
 
-impl Written {
-    // The three numbers of what is written.
-    pub fn told(self) -> Told
-        ensures { result ≡ written_numbers self }
-    {
-        let Written::All(n) = self else {
-            return Told {
-                result: 41,
-                second: 0,
-                third: 0,
-            };
-        };
-        Told {
-            result: 0,
-            second: n,
-            third: 0,
+// The numbers of finding the rounds that a loop may have.
+impl From<Result<(u32, u32), NoSpan>> for Told {
+    ghost from_gives = { λ span told. told ≡ span_numbers span };
+
+    fn from(span: Result<(u32, u32), NoSpan>) -> Told {
+        match span {
+            Ok((least, greatest)) => numbers(0, least as usize, greatest as usize),
+            Err(NoSpan::Refused(rejection)) => Told::from(Err(rejection)),
+            Err(NoSpan::NoLoop(k)) => numbers(27, k, 0),
+        }
+    }
+}
+
+// The numbers of setting a loop's rounds.
+impl From<Result<(), NotSet>> for Told {
+    ghost from_gives = { λ setting told. told ≡ setting_numbers setting };
+
+    fn from(setting: Result<(), NotSet>) -> Told {
+        match setting {
+            Ok(()) => numbers(0, 0, 0),
+            Err(NotSet::Unfinished(n)) => numbers(24, n, 0),
+            Err(NotSet::NoLoop(k)) => numbers(27, k, 0),
+            Err(NotSet::OutOfRange(r)) => numbers(16, r, 5),
+        }
+    }
+}
+
+// The numbers of what is written.
+impl From<Result<usize, WriteError>> for Told {
+    ghost from_gives = { λ written told. told ≡ written_numbers written };
+
+    fn from(written: Result<usize, WriteError>) -> Told {
+        match written {
+            Ok(count) => numbers(0, count, 0),
+            Err(WriteError::TooShort) => numbers(41, 0, 0),
         }
     }
 }

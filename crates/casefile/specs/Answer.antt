@@ -2,9 +2,8 @@
 use Rattle.std.specs.Prelude.{List, cond, ℕ}
 use Rattle.answers.specs.declared.Told.{Told}
 use Rattle.answers.specs.Answers.{is_taken, refusal, numbers_of}
-use Rattle.collector.specs.declared.Collected.{Collected}
+use Rattle.collector.specs.Taking.{Collected, collected_of}
 use Rattle.collector.specs.Cases.{empty_case, items_of}
-use Rattle.collector.specs.Taking.{collected_of}
 use Rattle.meaning.specs.Judged.{start_of}
 use Rattle.verdict.specs.Verdict.{verdict}
 

@@ -1,7 +1,8 @@
 -- The three demands, each as one theorem: read this first. A file is a list of bytes, and `answer_of` has the three numbers that it is answered. Assumes nothing.
 --
 -- One promise ties them to the code: `casefile::answer` (casefile/src/lib.rt), which the program calls, ensures `r ≡ answer_of bytes` for every byte slice.
--- Where demand 1 speaks of the case that is held, it is what `Case::take` and `Case::take_all` hand back (collector/src/lib.rt: `r ≡ taken_of ..`, `r ≡ collected_of ..`).
+-- Where demand 1 speaks of the case that is held, it is what `Case::take` hands back and what `Case::take_all` leaves in place (collector/src/lib.rt: `result ≡ taken_of ..`;
+-- `self.new ≡ (collected_of ..).case`, `result ≡ counted (collected_of ..)`).
 --
 -- To be read with this file, small crates of definitions that can be read whole, in this order:
 -- record/specs (Spelling, Layout, Spell), kinds/specs (Kinds, Contents), table/specs (Sorts, Table), items/specs (Items, Lists), answers/specs/Answers.antt,
@@ -17,9 +18,7 @@ use Rattle.kinds.specs.declared.Kind.TheVariants as kind
 use Rattle.kinds.specs.Kinds.{letter_of}
 use Rattle.items.specs.Items.{row_of}
 use Rattle.items.specs.Lists.{list_of}
-use Rattle.answers.specs.declared.Answer.{Answer}
-use Rattle.answers.specs.declared.Judgement.{Judgement}
-use Rattle.answers.specs.Answers.{is_taken, refusal, numbers_of}
+use Rattle.answers.specs.Answers.{is_taken, refusal, numbers_of, Answer, Judgement}
 use Rattle.rules.specs.Rules.{content_at, BadPlace}
 use Rattle.rules.specs.Files.{rows_of, spelled_by, spelled, AllTaken, Refused}
 use Rattle.collector.specs.declared.Case.{Case}

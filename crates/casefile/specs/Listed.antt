@@ -1,5 +1,5 @@
 -- Every file gets one of document 01's results, with its second and third number in range. Assumes nothing.
-use Rattle.std.specs.Prelude.{◌≡◌, refl, List, [], ◌∷◌, Bool, true, false, cond, ℕ, zero, suc, ◌+◌, ◌≤◌, ◌<◌, eqb, length}
+use Rattle.std.specs.Prelude.{◌≡◌, refl, List, [], ◌∷◌, Bool, true, false, cond, ℕ, zero, suc, ◌+◌, ◌≤◌, ◌<◌, eqb, length, Err, None, Ok, Some}
 use Rattle.std.proofs.Common.{◌∙◌, sym, ap, inl, inr, ⊎_elim, true≢false, arith, lit<}
 use mathlib.Core.List.Memᴰ
 use Rattle.laws.specs.Tests.{cond_by}
@@ -10,19 +10,15 @@ use Rattle.kinds.specs.declared.Kind.{Kind}
 use Rattle.kinds.specs.declared.Kind.TheVariants as kind
 use Rattle.kinds.specs.Kinds.{counts_total}
 use Rattle.table.specs.Table.{shape_of}
-use Rattle.items.specs.declared.Ref.{Ref}
-use Rattle.items.specs.declared.Ref.TheVariants as ref
 use Rattle.items.specs.Lists.{Items, list_of, counts_of, room_of}
-use Rattle.answers.specs.declared.Answer.{Answer}
-use Rattle.answers.specs.declared.Answer.TheVariants as answer
-use Rattle.answers.specs.Answers.{is_taken}
+use Rattle.answers.specs.declared.Refusal.TheVariants as refusal
+use Rattle.answers.specs.Answers.{is_taken, Answer}
 use Rattle.checks.specs.declared.Fault.TheVariants as fault
 use Rattle.rules.specs.Rules.{Applies, fields_of}
 use Rattle.rules.specs.Files.{item_count}
 use Rattle.collector.specs.declared.Case.{Case}
-use Rattle.collector.specs.declared.Collected.{Collected}
+use Rattle.collector.specs.Taking.{Collected, taken_of, collected_from, collected_of}
 use Rattle.collector.specs.Cases.{empty_case, items_of}
-use Rattle.collector.specs.Taking.{taken_of, collected_from, collected_of}
 use Rattle.collector.specs.Sound.{Sound}
 use Rattle.rules_laws.specs.Tells.{tells_missing, tells_extra, tells_outside, tells_there}
 use Rattle.rules_laws.specs.Stages.{in_record}
@@ -40,26 +36,27 @@ use Rattle.verdict.specs.Verdict as judge
 use Rattle.verdict.specs.Verdict.{Found, nowhere, first_not, finished, connects, passes, mark_right, verdict}
 use Rattle.verdict_laws.specs.Steps.{in_way, back_way}
 use Rattle.casefile.specs.Answer.{answer_after, answer_of}
+use Rattle.items.specs.Items.{Ref}
 
 -- ---- a record
 
 -- a refusal that applies names a field, or a byte of one, that it may name
 third_fits : (x : Items) (bs : List ℕ) (a : Answer) → Applies x bs a → ThirdFits a
-third_fits x bs answer.Taken w = absurd w
-third_fits x bs answer.NotARecord w = tt
-third_fits x bs answer.NoLineFeed w = tt
-third_fits x bs answer.NoSuchKind w = tt
-third_fits x bs (answer.Misspelled p) (f, k, l, b, e) = let (h, i) = bad_in bs f k b in (omega arith, omega (arith, b.0))
-third_fits x bs (answer.Misfilled f) (k, is, form, w) =
+third_fits x bs (Ok tt) w = absurd w
+third_fits x bs (Err refusal.NotARecord) w = tt
+third_fits x bs (Err refusal.NoLineFeed) w = tt
+third_fits x bs (Err refusal.NoSuchKind) w = tt
+third_fits x bs (Err (refusal.Misspelled p)) (f, k, l, b, e) = let (h, i) = bad_in bs f k b in (omega arith, omega (arith, b.0))
+third_fits x bs (Err (refusal.Misfilled f)) (k, is, form, w) =
     ⊎_elim (λ l. in_record fault.Missing (shape_of k (record_of bs)) bs f ((tells_missing k (fields_of bs) f).1 l.holds))
     (λ (full, l). in_record fault.Extra (shape_of k (record_of bs)) bs f ((tells_extra k (fields_of bs) f).1 l.holds)) w
-third_fits x bs (answer.OutOfRange f) (k, is, l) = in_record fault.OutOfRange (shape_of k (record_of bs)) bs f ((tells_outside k (fields_of bs) f).1 l.holds)
-third_fits x bs answer.OutOfOrder w = tt
-third_fits x bs answer.NoRoom w = tt
-third_fits x bs (answer.NotThere f) (k, is, l) =
+third_fits x bs (Err (refusal.OutOfRange f)) (k, is, l) = in_record fault.OutOfRange (shape_of k (record_of bs)) bs f ((tells_outside k (fields_of bs) f).1 l.holds)
+third_fits x bs (Err refusal.OutOfOrder) w = tt
+third_fits x bs (Err refusal.NoRoom) w = tt
+third_fits x bs (Err (refusal.NotThere f)) (k, is, l) =
     in_record (fault.NotThere (counts_of x)) (shape_of k (record_of bs)) bs f ((tells_there k (fields_of bs) f (counts_of x)).1 l.holds)
-third_fits x bs (answer.Misplaced f) (is, w) = ⊎_elim (λ c. inl c.1) (λ m. inr m.2) w
-third_fits x bs answer.WrongWayIn w = tt
+third_fits x bs (Err (refusal.Misplaced f)) (is, w) = ⊎_elim (λ c. inl c.1) (λ m. inr m.2) w
+third_fits x bs (Err refusal.WrongWayIn) w = tt
 
 -- ---- a judgement
 
@@ -100,30 +97,30 @@ module _ (c : Case) (s : Sound c) where
 
   -- a move that is named is there
   abbrev MoveThere : Ref → Type 0
-  MoveThere r = (t : ℕ) → r ≡ ref.At t → t < length x.moves
+  MoveThere r = (t : ℕ) → r ≡ Some t → t < length x.moves
 
   way_move : (w : Way) → w.place < length x.places → MoveThere (move_no x.places w)
   way_move w h t = go w.back
     where
-      into : (p : ℕ) → p < length x.places → (place_at x.places p).way ≡ ref.At t → t < length x.moves
+      into : (p : ℕ) → p < length x.places → (place_at x.places p).way ≡ Some t → t < length x.moves
       into zero h e = let z : ◌≡◌ {A = ℕ} 0 1 = cc (facts c s).start in absurd (omega arith)
       into (suc p) h e =
           let (u, q, l) = (facts c s).resolved.ways (suc p) (omega arith) h in
           let r : u ≡ t = cc in
           omega arith
 
-      go : (b : Bool) → cond b (back_of (place_at x.places w.place).mark) (place_at x.places w.place).way ≡ ref.At t → t < length x.moves
+      go : (b : Bool) → cond b (back_of (place_at x.places w.place).mark) (place_at x.places w.place).way ≡ Some t → t < length x.moves
       go true = (facts c s).resolved.backs w.place t h
       go false = into w.place h
 
   number_small : (r : Ref) → MoveThere r → judge.ref_number r < room_of kind.Move
-  number_small ref.None k = lit< tt
-  number_small (ref.At t) k = omega (arith, k t refl, held kind.Move)
+  number_small None k = lit< tt
+  number_small (Some t) k = omega (arith, k t refl, held kind.Move)
 
   guards_small : (r : Ref) → MoveThere r → All (λ g. g < room_of kind.Guard) (guards_of (move_at x.moves r))
   unfolding move_at
-  guards_small ref.None k = none
-  guards_small (ref.At t) k = all_map (λ g l. omega (arith, held kind.Guard)) ((facts c s).resolved.guards t (k t refl))
+  guards_small None k = none
+  guards_small (Some t) k = all_map (λ g l. omega (arith, held kind.Guard)) ((facts c s).resolved.guards t (k t refl))
 
   -- what is found is in range
   abbrev WayFits : Way → Type 0

@@ -6,14 +6,12 @@ use Rattle.std.proofs.Math.Seq.{append_snoc}
 use Rattle.laws.specs.Lowest.{neither_less}
 use Rattle.laws.specs.Tests.{cond_by}
 use Rattle.record.specs.Layout.{cut}
-use Rattle.answers.specs.declared.Answer.{Answer}
-use Rattle.answers.specs.Answers.{is_taken, refusal}
+use Rattle.answers.specs.Answers.{is_taken, refusal, Answer}
 use Rattle.rules.specs.Rules.{Applies, IsFirst}
 use Rattle.rules.specs.Files.{rows_of, spelled_by, AllTaken, Refused}
 use Rattle.collector.specs.declared.Case.{Case}
-use Rattle.collector.specs.declared.Collected.{Collected}
+use Rattle.collector.specs.Taking.{Collected, taken_of, collected_from, collected_of}
 use Rattle.collector.specs.Cases.{empty_case, items_of}
-use Rattle.collector.specs.Taking.{taken_of, collected_from, collected_of}
 use Rattle.collector.specs.Sound.{Sound}
 use Rattle.rules_laws.specs.Stages.{refuses}
 use Rattle.rules_laws.specs.Kept.{sound_empty, sound_kept}

@@ -1,6 +1,6 @@
 -- What a file is answered, by the meaning: where its records are all taken, the numbers of the one answer that its case is judged; and the result is 0 exactly
 -- where the file is accepted; and where the result is 14, which byte it names. Assumes nothing.
-use Rattle.std.specs.Prelude.{◌≡◌, refl, ◌↔◌, List, [], map, true, cond, ℕ, eqb, get_or}
+use Rattle.std.specs.Prelude.{◌≡◌, refl, ◌↔◌, List, [], map, true, cond, ℕ, eqb, get_or, Err, Ok}
 use Rattle.std.proofs.Common.{◌∙◌, sym, ap, subst, ⊎_elim, true≢false, arith, eq-eqb}
 use Rattle.std.proofs.Math.Logic.Iff
 use Rattle.laws.specs.Lowest.{lowest}
@@ -10,9 +10,8 @@ use Rattle.counters.specs.Sum.{Valuation}
 use Rattle.items.specs.Items.{row_of}
 use Rattle.items.specs.Lists.{Items, list_of}
 use Rattle.answers.specs.declared.Told.{Told}
-use Rattle.answers.specs.declared.Judgement.{Judgement}
-use Rattle.answers.specs.declared.Judgement.TheVariants.{Accepted, Unfinished, WrongStart, Unconnected, GuardFails, WrongMark, RootUnmarked}
-use Rattle.answers.specs.Answers.{number_of, turn_of, is_taken, numbers_of}
+use Rattle.answers.specs.declared.Rejection.TheVariants.{Unfinished, WrongStart, Unconnected, GuardFails, WrongMark, RootUnmarked}
+use Rattle.answers.specs.Answers.{number_of, turn_of, is_taken, numbers_of, Judgement}
 use Rattle.answers.specs.Laws.{taken_is}
 use Rattle.rules.specs.Rules.{BadPlace}
 use Rattle.rules.specs.Files.{rows_of, spelled, AllTaken}
@@ -34,21 +33,21 @@ use Rattle.casefile.specs.Refused.{file_refused, file_ends}
 -- an answer by its numbers
 abbrev judgement_of : Told → Judgement
 judgement_of n =
-    cond (eqb n.result 24) (Unfinished n.second)
-    (cond (eqb n.result 31) WrongStart
-    (cond (eqb n.result 32) (Unconnected (record { 0 = n.second }) n.third)
-    (cond (eqb n.result 33) (GuardFails (record { 0 = n.second }) n.third)
-    (cond (eqb n.result 34) (WrongMark (record { 0 = n.second }) n.third)
-    (cond (eqb n.result 35) (RootUnmarked n.third) Accepted)))))
+    cond (eqb n.result 24) (Err (Unfinished n.second))
+    (cond (eqb n.result 31) (Err WrongStart)
+    (cond (eqb n.result 32) (Err (Unconnected (record { 0 = n.second }) n.third))
+    (cond (eqb n.result 33) (Err (GuardFails (record { 0 = n.second }) n.third))
+    (cond (eqb n.result 34) (Err (WrongMark (record { 0 = n.second }) n.third))
+    (cond (eqb n.result 35) (Err (RootUnmarked n.third)) (Ok tt))))))
 
 numbered : (a : Judgement) → judgement_of (numbers_of a) ≡ a
-numbered (Unfinished n) = refl
-numbered WrongStart = refl
-numbered (Unconnected p t) = refl
-numbered (GuardFails p g) = refl
-numbered (WrongMark p i) = refl
-numbered (RootUnmarked r) = refl
-numbered Accepted = refl
+numbered (Err (Unfinished n)) = refl
+numbered (Err WrongStart) = refl
+numbered (Err (Unconnected p t)) = refl
+numbered (Err (GuardFails p g)) = refl
+numbered (Err (WrongMark p i)) = refl
+numbered (Err (RootUnmarked r)) = refl
+numbered (Ok tt) = refl
 
 module _ (bs : List ℕ) (h : AllTaken (cut bs)) where
   ended : is_taken (collected_of empty_case bs).answer ≡ true
@@ -127,13 +126,13 @@ file_means bs = (
 
 -- 14 is no result of a judgement
 judged_otherwise : (a : Judgement) → (numbers_of a).result ≡ 14 → ⊥
-judged_otherwise Accepted e = omega arith
-judged_otherwise (Unfinished n) e = omega arith
-judged_otherwise WrongStart e = omega arith
-judged_otherwise (Unconnected p t) e = omega arith
-judged_otherwise (GuardFails p g) e = omega arith
-judged_otherwise (WrongMark p i) e = omega arith
-judged_otherwise (RootUnmarked r) e = omega arith
+judged_otherwise (Ok tt) e = omega arith
+judged_otherwise (Err (Unfinished n)) e = omega arith
+judged_otherwise (Err WrongStart) e = omega arith
+judged_otherwise (Err (Unconnected p t)) e = omega arith
+judged_otherwise (Err (GuardFails p g)) e = omega arith
+judged_otherwise (Err (WrongMark p i)) e = omega arith
+judged_otherwise (Err (RootUnmarked r)) e = omega arith
 
 -- the third number of t is the place of the bad byte of the record that its second number names, one of the file bs
 abbrev NamesBad : List ℕ → Told → Type 0

@@ -13,10 +13,8 @@ use Rattle.table.specs.Table.{shape_of, rule_at}
 use Rattle.counters.specs.Sum.{sum}
 use Rattle.items.specs.Items.{per_counter, state_of, guard_of, move_of, form_of, sentence_of, mark_of, place_of}
 use Rattle.items.specs.Lists.{Items}
-use Rattle.answers.specs.declared.Judgement.{Judgement}
 use Rattle.answers.specs.declared.Told.{Told}
-use Rattle.answers.specs.declared.Answer.{Answer}
-use Rattle.answers.specs.Answers.{numbers, numbers_of, refusal}
+use Rattle.answers.specs.Answers.{numbers, numbers_of, refusal, Answer, Judgement}
 use Rattle.checks.specs.Faults.{lowest_fault}
 use Rattle.checks.specs.Input.{range_answer, extra_answer, missing_answer, form_answer, fields_answer, ended_head, head_of}
 use Rattle.rules.specs.Files.{rows_of, spelled, AllTaken, Refused}

@@ -1,10 +1,8 @@
 -- The file of a case, worked out by the definitions from the items alone: an unfinished case with a number below 0, both ends of what a field can spell,
 -- 0 beside blank fields, and each kind of record. Assumes nothing.
-use Rattle.std.specs.Prelude.{◌≡◌, refl, [], ◌∷◌, pos, negsuc}
+use Rattle.std.specs.Prelude.{◌≡◌, refl, [], ◌∷◌, pos, negsuc, None, Some}
 use Rattle.laws.specs.All.{gather}
 use Rattle.record.specs.Spell.{last_digits, numeral, token, spell}
-use Rattle.items.specs.declared.Ref.TheVariants as ref
-use Rattle.items.specs.declared.Term.TheVariants as term
 use Rattle.items.specs.declared.Form.TheVariants as form
 use Rattle.items.specs.declared.LoopMark.TheVariants as mark
 use Rattle.items.specs.Items.{row_of}
@@ -19,11 +17,11 @@ one_of_each =
       states = record { propositions = 65535 } ∷ [];
       weights = record { at = pos 9999999 ∷ negsuc 999998 ∷ pos 0 ∷ negsuc 0 ∷ [] } ∷ [];
       guards = record { coefficients = record { at = pos 1 ∷ pos 0 ∷ negsuc 998 ∷ pos 10 ∷ [] }; bound = negsuc 1249 } ∷ [];
-      moves = record { from = 0; to = 0; updates = record { at = pos 1250 ∷ pos 0 ∷ pos 0 ∷ negsuc 9998 ∷ [] }; guard1 = ref.At 0; guard2 = ref.None } ∷ [];
-      sentences = record { form = form.True } ∷ record { form = form.Until 0 0 (pos 100) (term.Some (negsuc 6) 0) term.None } ∷ [];
+      moves = record { from = 0; to = 0; updates = record { at = pos 1250 ∷ pos 0 ∷ pos 0 ∷ negsuc 9998 ∷ [] }; guard1 = Some 0; guard2 = None } ∷ [];
+      sentences = record { form = form.True } ∷ record { form = form.Until 0 0 (pos 100) (Some (record { coefficient = (negsuc 6); sentence = 0 })) None } ∷ [];
       places =
-          record { state = 0; way = ref.None; marks = 3; mark = mark.Counted 1 1000000 0 }
-          ∷ record { state = 0; way = ref.At 0; marks = 0; mark = mark.Endless 2 0 }
+          record { state = 0; way = None; marks = 3; mark = mark.Counted 1 1000000 0 }
+          ∷ record { state = 0; way = Some 0; marks = 0; mark = mark.Endless 2 0 }
           ∷ [];
     }
 

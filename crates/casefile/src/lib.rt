@@ -5,7 +5,7 @@ ghost use Rattle.std.specs.Prelude.{◌≡◌, take};
 ghost use Rattle.answers.specs.Answers.{refusal};
 ghost use Rattle.casefile.specs.Answer.{answer_of};
 
-use answers::{Answer, Told};
+use answers::{Refusal, Told};
 use collector::Case;
 use record::Record;
 
@@ -13,13 +13,13 @@ use record::Record;
 pub const ENOUGH: usize = Record::LENGTH * (Case::ROOM + 1);
 
 // The three numbers of a record that is refused: its result, how many were taken before it, and the byte or the field.
-pub fn refused(taken: usize, answer: Answer) -> Told
+pub fn refused(taken: usize, answer: Result<(), Refusal>) -> Told
     ensures { result ≡ refusal taken answer }
 {
     Told {
-        result: answer.number() as usize,
+        result: usize::from(answers::number(answer)),
         second: taken,
-        third: answer.third(),
+        third: answers::third(answer),
     }
 }
 
@@ -28,10 +28,9 @@ pub fn answer(bytes: &[u8]) -> Told
     ensures value { result ≡ answer_of bytes.now }
     ensures by_first_bytes { result ≡ answer_of (take ENOUGH bytes.now) }
 {
-    let run = Case::empty().take_all(bytes);
-    let answer = run.answer;
-    if answers::is_taken(answer) {
-        return judge::judge(run.case).told();
+    let mut case = Case::empty();
+    match case.take_all(bytes) {
+        Ok(_) => Told::from(judge::judge(case)),
+        Err((taken, refusal)) => refused(taken, Err(refusal)),
     }
-    refused(run.taken, answer)
 }

@@ -1,4 +1,5 @@
 -- A record none of whose fields has a fault is taken, and refers only to what is there. Assumes nothing.
+use Rattle.std.specs.Prelude.{Ok}
 use mathlib.Core.Path.{◌≡◌, refl, subst}
 use mathlib.Core.Bool.{Bool, true, false, not, ◌&&◌, and-eq-true_iff, false≢true}
 use Prim.Native.Nat.{ℕ, ◌+◌, ◌≤◌, ◌<◌}
@@ -25,7 +26,6 @@ use Rattle.table.specs.Sorts.{range_of}
 use Rattle.table.specs.Table.{rule_at, rules_of, in_filled}
 use Rattle.checks.specs.declared.Fault.{Fault}
 use Rattle.checks.specs.declared.Fault.TheVariants as fault
-use Rattle.answers.specs.declared.Answer.TheVariants.{Taken}
 use Rattle.checks.specs.Faults.{misspelled, missing, extra, beyond, outside, dangling, not_there, has_fault, fault_at, lowest_fault, good, fault_free, faultless}
 use Rattle.checks.specs.Input.{wrong_form, range_answer, extra_answer, missing_answer, form_answer, fields_answer}
 
@@ -96,7 +96,7 @@ module _ (n : Counts) (s : Shape) (r : Record) (e : faultless n s r ≡ true) wh
   unfolding lowest_fault
   lacks f h = none_lowest (fault_at f s r) fields 1 (λ k l m. h (rule_at s k) (at r.fields k) (clear_at k l (omega arith)))
 
-  pub faultless_taken : fields_answer s r ≡ Taken
+  pub faultless_taken : fields_answer s r ≡ Ok tt
   unfolding range_answer extra_answer missing_answer form_answer fields_answer
   faultless_taken =
       simp (

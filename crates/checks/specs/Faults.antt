@@ -1,5 +1,5 @@
 -- What can be wrong with a field, by its rule and what it says; and the lowest field with a fault.
-use Rattle.std.specs.Prelude.{Bool, true, false, not, ◌&&◌, ◌||◌, ℕ, ◌^◌, ltb, pos}
+use Rattle.std.specs.Prelude.{Bool, true, false, cond, not, ◌&&◌, ◌||◌, ℕ, ◌^◌, leb, ltb, pos, Option, Some, None}
 use Rattle.std.specs.Int.Signed.{lt_z, le_z}
 use Rattle.laws.specs.Lowest.{lowest}
 use Rattle.record.specs.declared.Content.{Content}
@@ -89,6 +89,10 @@ fault_at f s r k = has_fault f (rule_at s k) (at r.fields k)
 -- the lowest field with a fault, counted from 1; one past the last where there is none
 unfoldable pub lowest_fault : Fault → Shape → Record → ℕ
 lowest_fault f s r = lowest fields 1 (fault_at f s r)
+
+-- the field f, where it is one
+abbrev pub field_or_none : ℕ → Option ℕ
+field_or_none f = cond (leb f fields) (Some f) None
 
 -- a number that is in the range of its sort, and refers to what is there
 abbrev pub good : Counts → Sort → Content → Bool

@@ -4,11 +4,11 @@
 ghost use Rattle.std.specs.Prelude.{◌≡◌, ◌^◌, ◌≤◌};
 ghost use Rattle.record.specs.Layout.{fields};
 ghost use Rattle.kinds.specs.Contents.{is_blank};
-ghost use Rattle.checks.specs.Faults.{misspelled, bad_byte, missing, extra, beyond, outside, at_least, dangling, not_there, has_fault, lowest_fault, good, fault_free, faultless};
+ghost use Rattle.checks.specs.Faults.{misspelled, bad_byte, missing, extra, beyond, outside, at_least, dangling, not_there, has_fault, lowest_fault, field_or_none, good, fault_free, faultless};
 ghost use Rattle.checks.specs.Input.{wrong_form, bad_place, fields_answer, head_of};
 
-use answers::Answer;
-use kinds::{Counts, Kind, Letter};
+use answers::Refusal;
+use kinds::{Counts, Kind};
 use record::{Content, Record};
 use table::{Range, Rule, Shape, Sort};
 
@@ -22,32 +22,21 @@ pub enum Fault {
     NotThere(Counts),
 }
 
-// What the head of a record says: its kind, or why it is refused.
-#[derive(Clone, Copy)]
-pub enum Head {
-    Of(Kind),
-    Refused(Answer),
-}
-
 // Neither blank nor a number.
 fn is_misspelled(content: Content) -> bool
     ensures { result ≡ misspelled content }
 {
-    match content {
-        Content::Blank => false,
-        Content::Number(_) => false,
-        Content::Bad(_) => true,
-    }
+    matches!(content, Content::Bad(_))
 }
 
 // Which byte of a field is bad, counted from 0; 0 where none is.
 fn bad_byte(content: Content) -> u32
     ensures { result ≡ bad_byte content }
 {
-    match content {
-        Content::Blank => 0,
-        Content::Number(_) => 0,
-        Content::Bad(byte) => byte,
+    if let Content::Bad(byte) = content {
+        byte
+    } else {
+        0
     }
 }
 
@@ -55,49 +44,28 @@ fn bad_byte(content: Content) -> u32
 pub fn is_blank(content: Content) -> bool
     ensures { result ≡ is_blank content }
 {
-    match content {
-        Content::Blank => true,
-        Content::Number(_) => false,
-        Content::Bad(_) => false,
-    }
+    matches!(content, Content::Blank)
 }
 
 // Needed and blank.
 fn is_missing(rule: Rule, content: Content) -> bool
     ensures { result ≡ missing rule content }
 {
-    match rule {
-        Rule::Blank => false,
-        Rule::Needed(_) => is_blank(content),
-        Rule::Optional(_) => false,
-    }
+    matches!(rule, Rule::Needed(_)) && is_blank(content)
 }
 
 // Filled, and must be blank.
 fn is_extra(rule: Rule, content: Content) -> bool
     ensures { result ≡ extra rule content }
 {
-    match rule {
-        Rule::Blank => kinds::is_number(content),
-        Rule::Needed(_) => false,
-        Rule::Optional(_) => false,
-    }
+    matches!(rule, Rule::Blank) && kinds::is_number(content)
 }
 
 // A number outside a range.
 fn is_beyond(range: Range, content: Content) -> bool
     ensures { result ≡ beyond range content }
 {
-    match content {
-        Content::Blank => false,
-        Content::Number(x) => {
-            if x < range.low {
-                return true;
-            }
-            range.high < x
-        }
-        Content::Bad(_) => false,
-    }
+    matches!(content, Content::Number(x) if x < range.low || range.high < x)
 }
 
 // A number outside the range of its rule.
@@ -106,8 +74,7 @@ fn is_outside(rule: Rule, content: Content) -> bool
 {
     match rule {
         Rule::Blank => false,
-        Rule::Needed(sort) => is_beyond(table::range_of(sort), content),
-        Rule::Optional(sort) => is_beyond(table::range_of(sort), content),
+        Rule::Needed(sort) | Rule::Optional(sort) => is_beyond(table::range_of(sort), content),
     }
 }
 
@@ -115,16 +82,7 @@ fn is_outside(rule: Rule, content: Content) -> bool
 fn is_at_least(m: usize, content: Content) -> bool
     ensures { result ≡ at_least m content }
 {
-    match content {
-        Content::Blank => false,
-        Content::Number(x) => {
-            if x < 0 {
-                return false;
-            }
-            m <= x as usize
-        }
-        Content::Bad(_) => false,
-    }
+    matches!(content, Content::Number(x) if 0 <= x && m <= x as usize)
 }
 
 // A set with a bit at or above n.
@@ -132,10 +90,7 @@ fn has_bit_from(n: usize, content: Content) -> bool
     ensures { result ≡ at_least (2 ^ n) content }
 {
     let set = kinds::natural_of(content);
-    if 32 <= n {
-        return false;
-    }
-    0 < set >> n
+    n < 32 && 0 < set >> n
 }
 
 // A reference to an item that is not there, or a set with a mark at or above the number of sentences.
@@ -155,8 +110,7 @@ fn is_not_there(counts: Counts, rule: Rule, content: Content) -> bool
 {
     match rule {
         Rule::Blank => false,
-        Rule::Needed(sort) => is_dangling(counts, sort, content),
-        Rule::Optional(sort) => is_dangling(counts, sort, content),
+        Rule::Needed(sort) | Rule::Optional(sort) => is_dangling(counts, sort, content),
     }
 }
 
@@ -173,21 +127,16 @@ fn has_fault(fault: Fault, rule: Rule, content: Content) -> bool
     }
 }
 
-// The lowest field with a fault, counted from 1; one past the last where there is none.
-pub fn lowest_fault(fault: Fault, shape: Shape, row: Record) -> usize
-    ensures { result ≡ lowest_fault fault shape row }
+// The lowest field with a fault, counted from 1.
+pub fn lowest_fault(fault: Fault, shape: Shape, row: Record) -> Option<usize>
+    ensures { result ≡ field_or_none (lowest_fault fault shape row) }
 {
-    let fields = row.fields;
-    let mut f: usize = 1;
-    while f <= Record::FIELDS {
-        let field = fields[f - 1];
-        let content = field.content;
-        if has_fault(fault, table::rule_at(shape, f), content) {
-            return f;
+    for f in 1..=Record::FIELDS {
+        if has_fault(fault, table::rule_at(shape, f), row.fields[f - 1].content) {
+            return Some(f);
         }
-        f = f + 1;
     }
-    f
+    None
 }
 
 // The place in the record of the bad byte of field f, counted from 1.
@@ -196,65 +145,46 @@ fn bad_place(row: Record, f: usize) -> usize
     ensures { result ≡ bad_place row f }
 {
     let at = f - 1;
-    let fields = row.fields;
-    let field = fields[at];
-    let content = field.content;
-    1 + at * Record::WIDTH + bad_byte(content) as usize
+    1 + at * Record::WIDTH + bad_byte(row.fields[at].content) as usize
 }
 
 // A sentence whose form is filled, but is none.
 fn has_wrong_form(shape: Shape, row: Record) -> bool
     ensures { result ≡ wrong_form shape row }
 {
-    let kind = shape.kind;
-    let fields = row.fields;
-    let first = fields[0];
-    let content = first.content;
-    if kind.is(Kind::Sentence) {
-        is_outside(Rule::Needed(Sort::FORM), content)
-    } else {
-        false
-    }
+    shape.kind.is(Kind::Sentence) && is_outside(Rule::Needed(Sort::FORM), row.fields[0].content)
 }
 
 // 14, 16 for a form, 15 and 16, in this order.
 #[tactic(auto, unfolding(crate::specs::Input::range_answer, crate::specs::Input::extra_answer, crate::specs::Input::missing_answer, crate::specs::Input::form_answer, crate::specs::Input::fields_answer))]
-pub fn fields_answer(shape: Shape, row: Record) -> Answer
+pub fn fields_answer(shape: Shape, row: Record) -> Result<(), Refusal>
     ensures { result ≡ fields_answer shape row }
 {
-    let bad = lowest_fault(Fault::Misspelled, shape, row);
-    if bad <= Record::FIELDS {
-        return Answer::Misspelled(bad_place(row, bad));
+    if let Some(f) = lowest_fault(Fault::Misspelled, shape, row) {
+        return Err(Refusal::Misspelled(bad_place(row, f)));
     }
     if has_wrong_form(shape, row) {
-        return Answer::OutOfRange(1);
+        return Err(Refusal::OutOfRange(1));
     }
-    let missing = lowest_fault(Fault::Missing, shape, row);
-    if missing <= Record::FIELDS {
-        return Answer::Misfilled(missing);
+    if let Some(f) = lowest_fault(Fault::Missing, shape, row) {
+        return Err(Refusal::Misfilled(f));
     }
-    let extra = lowest_fault(Fault::Extra, shape, row);
-    if extra <= Record::FIELDS {
-        return Answer::Misfilled(extra);
+    if let Some(f) = lowest_fault(Fault::Extra, shape, row) {
+        return Err(Refusal::Misfilled(f));
     }
-    let outside = lowest_fault(Fault::OutOfRange, shape, row);
-    if outside <= Record::FIELDS {
-        return Answer::OutOfRange(outside);
+    if let Some(f) = lowest_fault(Fault::OutOfRange, shape, row) {
+        return Err(Refusal::OutOfRange(f));
     }
-    Answer::Taken
+    Ok(())
 }
 
 // A number that is in the range of its sort, and refers to what is there.
 fn is_good(counts: Counts, sort: Sort, content: Content) -> bool
     ensures { result ≡ good counts sort content }
 {
-    if is_beyond(table::range_of(sort), content) {
-        return false;
-    }
-    if is_dangling(counts, sort, content) {
-        return false;
-    }
-    kinds::is_number(content)
+    !is_beyond(table::range_of(sort), content)
+        && !is_dangling(counts, sort, content)
+        && kinds::is_number(content)
 }
 
 // A field that has no fault at all.
@@ -264,28 +194,17 @@ fn is_right(counts: Counts, rule: Rule, content: Content) -> bool
     match rule {
         Rule::Blank => is_blank(content),
         Rule::Needed(sort) => is_good(counts, sort, content),
-        Rule::Optional(sort) => {
-            if is_blank(content) {
-                true
-            } else {
-                is_good(counts, sort, content)
-            }
-        }
+        Rule::Optional(sort) => is_blank(content) || is_good(counts, sort, content),
     }
 }
 
-// Whether no field has a fault: one pass for a record that is right.
+// Whether no field has a fault: one pass for a record that is right. (What a field says is read out first: handed on in place, it takes longer.)
 pub fn fits(counts: Counts, shape: Shape, row: Record) -> bool
     ensures { result ≡ faultless counts shape row }
 {
-    let fields = row.fields;
-    let mut k: usize = 1;
-    while k <= Record::FIELDS {
-        let field = fields[k - 1];
-        let content = field.content;
-        if is_right(counts, table::rule_at(shape, k), content) {
-            k = k + 1;
-        } else {
+    for f in 1..=Record::FIELDS {
+        let content = row.fields[f - 1].content;
+        if !is_right(counts, table::rule_at(shape, f), content) {
             return false;
         }
     }
@@ -294,19 +213,14 @@ pub fn fits(counts: Counts, shape: Shape, row: Record) -> bool
 
 // The head of a record: 11, 12, 13.
 #[tactic(auto, unfolding(crate::specs::Input::ended_head, crate::specs::Input::head_of))]
-pub fn head_of(bytes: &[u8]) -> Head
+pub fn head_of(bytes: &[u8]) -> Result<Kind, Refusal>
     ensures { result ≡ head_of bytes.now }
 {
     if bytes.len() != Record::LENGTH {
-        return Head::Refused(Answer::NotARecord);
+        return Err(Refusal::NotARecord);
     }
-    let last = bytes[Record::LENGTH - 1];
-    if last != b'\n' {
-        return Head::Refused(Answer::NoLineFeed);
+    if bytes[Record::LENGTH - 1] != b'\n' {
+        return Err(Refusal::NoLineFeed);
     }
-    let letter = kinds::kind_of(bytes[0]);
-    match letter {
-        Letter::Names(kind) => Head::Of(kind),
-        Letter::Unknown => Head::Refused(Answer::NoSuchKind),
-    }
+    kinds::kind_of(bytes[0]).ok_or(Refusal::NoSuchKind)
 }

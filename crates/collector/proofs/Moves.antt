@@ -1,4 +1,5 @@
 -- The updates of the move that a reference names, added to a value for each counter; where it names none, nothing is added. Assumes nothing.
+use Rattle.std.specs.Prelude.{None, Some}
 use mathlib.Core.Path.{◌≡◌, refl, sym, ◌∙◌, ap, subst, subst₂}
 use mathlib.Core.List.{List}
 use Prim.Native.Nat.{ℕ, suc, ◌+◌, ◌*◌, ◌≤◌, ◌<◌, ◌^◌}
@@ -12,13 +13,12 @@ use Rattle.kinds.specs.Kinds.{counters}
 use Rattle.counters.specs.declared.Counters.{Counters}
 use Rattle.counters.specs.Vectors.{value_at, vec, vec_of}
 use Rattle.counters.specs.Values.{has, values_same}
-use Rattle.items.specs.declared.Ref.{Ref}
-use Rattle.items.specs.declared.Ref.TheVariants as ref
 use Rattle.items.specs.declared.Move.{Move}
 use Rattle.items.specs.Lists.{Items, room_of, no_item}
 use Rattle.meaning.specs.Run.{move_at, update}
 use Rattle.meaning.specs.Drift.{in_by, back_by, once_around}
 use Rattle.collector.specs.Cases.{slot_of}
+use Rattle.items.specs.Items.{Ref}
 
 -- v has the values f j, each a sum of k numbers of 16 bits
 pub record Sums (v : Counters) (f : ℕ → ℤ) (k : ℕ) : Type 0 where
@@ -35,16 +35,16 @@ module _ (ts : List Move) (long : length ts ≡ room_of kind.Move) {t : ℕ} (r 
   some_move d h = ap (λ n. get_or ts n d) e ∙ go r (omega (arith, e))
     where
       go : (r : Ref) → slot_of r < room_of kind.Move → get_or ts (slot_of r) d ≡ move_at ts r
-      go ref.None h = absurd (omega arith)
-      go (ref.At n) h = within ts n d (no_item kind.Move) (omega (arith, long))
+      go None h = absurd (omega arith)
+      go (Some n) h = within ts n d (no_item kind.Move) (omega (arith, long))
 
   no_move : room_of kind.Move ≤ t → move_at ts r ≡ no_item kind.Move
   unfolding move_at
   no_move h = go r (omega (arith, e))
     where
       go : (r : Ref) → room_of kind.Move ≤ slot_of r → move_at ts r ≡ no_item kind.Move
-      go ref.None h = refl
-      go (ref.At n) h = get_or-eq_default ts (no_item kind.Move) {n = n} (omega (arith, long))
+      go None h = refl
+      go (Some n) h = get_or-eq_default ts (no_item kind.Move) {n = n} (omega (arith, long))
 
   -- past the room there is none
   pub none_added : room_of kind.Move ≤ t → (j : ℕ) → update (move_at ts r) j ≡ pos 0

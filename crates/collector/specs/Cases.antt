@@ -1,14 +1,12 @@
 -- A case: the one that holds given items, with what follows from them and is kept beside them; the empty one; and one with one item more.
-use Rattle.std.specs.Prelude.{List, [], ◌∷◌, ◌++◌, cond, ◌&&◌, ℕ, ◌+◌, ◌-◌, leb, pos, length, take, set, replicate}
+use Rattle.std.specs.Prelude.{List, [], ◌∷◌, ◌++◌, cond, ◌&&◌, ℕ, ◌+◌, ◌-◌, leb, pos, length, take, set, replicate, None, Some}
 use Rattle.laws.specs.Tab.{tab}
 use Rattle.record.specs.declared.Field.{Field}
 use Rattle.kinds.specs.declared.Kind.{Kind}
 use Rattle.kinds.specs.declared.Kind.TheVariants as kind
 use Rattle.kinds.specs.declared.Counts.{Counts}
 use Rattle.kinds.specs.Kinds.{count_of, counts_by, same}
-use Rattle.items.specs.declared.Ref.{Ref}
-use Rattle.items.specs.declared.Ref.TheVariants as ref
-use Rattle.items.specs.Items.{Item, item_of, place_of}
+use Rattle.items.specs.Items.{Item, item_of, place_of, Ref}
 use Rattle.items.specs.Lists.{items_by, Items, room_of, no_item, list_of, counts_of}
 use Rattle.counters.specs.declared.Counters.{Counters}
 use Rattle.counters.specs.Vectors.{vec_of}
@@ -32,8 +30,8 @@ added x k r = changed k (λ j l. l ++ (item_of j r ∷ [])) x
 
 -- the number of the move that a reference names, and one past the room for moves where it names none
 abbrev pub slot_of : Ref → ℕ
-slot_of ref.None = room_of kind.Move
-slot_of (ref.At t) = t
+slot_of None = room_of kind.Move
+slot_of (Some t) = t
 
 -- what is kept with place q: the drift of the loop that it begins, once that has closed, and else 0
 abbrev pub kept_with : Items → ℕ → Counters

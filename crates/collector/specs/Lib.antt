@@ -1,3 +1,4 @@
 pub mod Cases
+pub mod Counted
 pub mod Taking
 pub mod Sound

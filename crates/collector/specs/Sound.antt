@@ -1,5 +1,5 @@
 -- What every case that is made by taking records has: one invariant.
-use Rattle.std.specs.Prelude.{◌≡◌, ◌↔◌, List, true, cond, ℕ, ◌≤◌, ◌<◌, ltb, length, get_or}
+use Rattle.std.specs.Prelude.{◌≡◌, ◌↔◌, List, true, cond, ℕ, ◌≤◌, ◌<◌, ltb, length, get_or, None}
 use Rattle.record.specs.declared.Field.{Field}
 use Rattle.record.specs.Spell.{HasSpelling}
 use Rattle.record.specs.Layout.{fields, at}
@@ -9,7 +9,6 @@ use Rattle.kinds.specs.declared.Counts.{Counts}
 use Rattle.kinds.specs.Kinds.{count_of, counts_by, rank_of, same}
 use Rattle.table.specs.declared.Shape.{Shape}
 use Rattle.table.specs.Table.{shape_of}
-use Rattle.items.specs.declared.Ref.TheVariants as ref
 use Rattle.items.specs.declared.LoopMark.TheVariants as mark
 use Rattle.items.specs.declared.Place.{Place}
 use Rattle.items.specs.Items.{item_of, row_of}
@@ -59,5 +58,5 @@ pub record Sound (c : Case) : Type 0 where
       (k : Kind) (i : ℕ) → i < count_of c.count k →
       item_of k (row_of k (get_or (list_of k (items_of c)) i (no_item k))) ≡ get_or (list_of k (items_of c)) i (no_item k)
   -- field 2 is blank exactly at place 0
-  pub ways : (i : ℕ) → i < c.count.places → (i ≡ 0) ↔ ((get_or (items_of c).places i (no_item kind.Place)).way ≡ ref.None)
+  pub ways : (i : ℕ) → i < c.count.places → (i ≡ 0) ↔ ((get_or (items_of c).places i (no_item kind.Place)).way ≡ None)
   pub loops : LoopsApart (items_of c).places

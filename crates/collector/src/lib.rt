@@ -4,21 +4,21 @@
 ghost use Rattle.std.specs.Prelude.{◌≡◌, cond, ◌+◌, ◌-◌, ◌≤◌, ◌<◌, min};
 ghost use Rattle.record.specs.Layout.{record_length};
 ghost use Rattle.kinds.specs.declared.Kind.TheVariants as kind;
+ghost use Rattle.kinds.specs.Kinds.{count_of};
 ghost use Rattle.items.specs.Lists.{room_of, no_item};
 ghost use Rattle.meaning.specs.Run.{back_of};
-ghost use Rattle.collector.specs.Cases.{slot_of, arrays_of, empty_case, round_from};
-ghost use Rattle.collector.specs.Taking.{refusal_of, taken_of, collected_of};
+ghost use Rattle.collector.specs.Cases.{slot_of, arrays_of, empty_case, round_from, with};
+ghost use Rattle.collector.specs.Taking.{taken_of, collected_of, counted};
 
-use answers::Answer;
-use checks::Head;
+use answers::Refusal;
 use counters::Counters;
-use items::{Form, Guard, LoopMark, Move, Place, PlaceNo, Ref, Room, Sentence, State, Weights};
+use items::{Form, Guard, LoopMark, Move, Place, PlaceNo, Room, Sentence, State, Weights};
 use kinds::{Counts, Kind, PerCounter};
 use record::{Content, Field, Record};
 use standing::Loops;
 
 // A case: the items of each kind and how many there are, and what follows from them and is kept beside them: the last loop, and what a round of each
-// closed loop adds to each counter, with the loop's first place.
+// closed loop adds to each counter, with the loop's first place. (Fixed memory, no heap.)
 #[derive(Clone, Copy)]
 pub struct Case {
     pub count: Counts,
@@ -32,65 +32,39 @@ pub struct Case {
     pub places: [Place; Case::PLACES],
 }
 
-// What taking a record hands back.
+// What taking a record hands back. (Document 01 names this form: a struct of the new case and the result.)
 #[derive(Clone, Copy)]
-pub struct Result {
+pub struct Taken {
     pub case: Case,
-    pub answer: Answer,
+    pub answer: Result<(), Refusal>,
 }
 
-// What taking the records of a file hands back: the last answer, and how many records were taken before it.
-#[derive(Clone, Copy)]
-pub struct Collected {
-    pub case: Case,
-    pub answer: Answer,
-    pub taken: usize,
-}
-
-// Why a head is refused.
-fn refusal(head: Head) -> Answer
-    ensures { result ≡ refusal_of head }
-{
-    match head {
-        Head::Of(_) => Answer::Taken,
-        Head::Refused(answer) => answer,
-    }
-}
-
-// The number of the move that a reference names, and one past the room for moves where it names none.
-pub fn slot(r: Ref) -> usize
+// The number of the move that a reference names, and one past the room for moves where it names none. (By `if let Some(t)` the test that t is below
+// the room would stand beside it: no plainer.)
+pub fn slot(r: Option<u8>) -> usize
     ensures { result ≡ slot_of r }
 {
     match r {
-        Ref::None => Case::MOVES,
-        Ref::At(t) => t as usize,
+        None => Case::MOVES,
+        Some(t) => usize::from(t),
     }
 }
 
 // The back move of a loop.
-fn back_of(m: LoopMark) -> Ref
+fn back_of(m: LoopMark) -> Option<u8>
     ensures { result ≡ back_of m }
 {
     match m {
-        LoopMark::None => Ref::None,
-        LoopMark::Counted {
-            length: _,
-            rounds: _,
-            back,
-        } => Ref::At(back),
-        LoopMark::Endless { length: _, back } => Ref::At(back),
+        LoopMark::None => None,
+        LoopMark::Counted { back, .. } | LoopMark::Endless { back, .. } => Some(back),
     }
 }
 
 // The move of a way into a place: the back move of the loop that it begins, or the move into it.
-pub fn move_into(place: Place, back: bool) -> Ref
+pub fn move_into(place: Place, back: bool) -> Option<u8>
     ensures { result ≡ cond back (back_of place.mark) place.way }
 {
-    if back {
-        let mark = place.mark;
-        return back_of(mark);
-    }
-    place.way
+    if back { back_of(place.mark) } else { place.way }
 }
 
 // What stands where no guard and no place is held yet.
@@ -99,7 +73,7 @@ fn no_guard() -> Guard
 {
     Guard {
         coefficients: PerCounter {
-            at: [0i16; PerCounter::COUNT],
+            at: [0; PerCounter::COUNT],
         },
         bound: 0,
     }
@@ -110,7 +84,7 @@ fn no_place() -> Place
 {
     Place {
         state: 0,
-        way: Ref::None,
+        way: None,
         marks: 0,
         mark: LoopMark::None,
     }
@@ -142,178 +116,123 @@ impl Case {
     pub fn empty() -> Case
         ensures { result ≡ empty_case }
     {
-        let count = Counts::none();
-        let loops = Loops {
-            first: PlaceNo(0),
-            end: PlaceNo(0),
-            endless: false,
-        };
-        let drifts = [counters::zero(); Case::PLACES];
-        let states = [State { propositions: 0 }; Case::STATES];
-        let weights = [Weights {
-            at: [0i64; PerCounter::COUNT],
-        }; Case::WEIGHTS];
-        let guards = [no_guard(); Case::GUARDS];
         let blank = Field {
             content: Content::Blank,
         };
         let row = Record {
             fields: [blank; Record::FIELDS],
         };
-        let moves = [items::move_of(row); Case::MOVES];
-        let sentences = [Sentence { form: Form::True }; Case::SENTENCES];
-        let places = [no_place(); Case::PLACES];
         Case {
-            count: count,
-            loops: loops,
-            drifts: drifts,
-            states: states,
-            weights: weights,
-            guards: guards,
-            moves: moves,
-            sentences: sentences,
-            places: places,
+            count: Counts::none(),
+            loops: Loops {
+                first: PlaceNo(0),
+                end: PlaceNo(0),
+                endless: false,
+            },
+            drifts: [counters::zero(); Case::PLACES],
+            states: [State { propositions: 0 }; Case::STATES],
+            weights: [Weights {
+                at: [0; PerCounter::COUNT],
+            }; Case::WEIGHTS],
+            guards: [no_guard(); Case::GUARDS],
+            moves: [items::move_of(row); Case::MOVES],
+            sentences: [Sentence { form: Form::True }; Case::SENTENCES],
+            places: [no_place(); Case::PLACES],
         }
     }
 
     // What a round adds of a loop from place q to place n: its back move, and the ways into its places but the first.
-    fn round_from(self, q: usize, n: usize) -> Counters
+    fn round_from(&self, q: usize, n: usize) -> Counters
         requires { (q ≤ n) × (n < room_of kind.Place) }
-        ensures { result ≡ round_from (arrays_of self) q n }
+        ensures { result ≡ round_from (arrays_of self.now) q n }
     {
-        let moves = self.moves;
-        let places = self.places;
-        let first = places[q];
         let mut v = counters::zero();
-        let back = slot(move_into(first, true));
+        let back = slot(move_into(self.places[q], true));
         if back < Case::MOVES {
-            let m = moves[back];
-            v = counters::plus(v, m.updates);
+            v = counters::plus(v, self.moves[back].updates);
         }
-        let mut p = q;
-        while p < n {
-            let place = places[p + 1];
-            let t = slot(move_into(place, false));
+        for p in q..n {
+            let t = slot(move_into(self.places[p + 1], false));
             if t < Case::MOVES {
-                let m = moves[t];
-                v = counters::plus(v, m.updates);
+                v = counters::plus(v, self.moves[t].updates);
             }
-            p = p + 1;
         }
         v
     }
 
-    // Takes the records of a file in order, up to the first that is refused.
-    pub fn take_all(mut self, src: &[u8]) -> Collected
-        ensures { result ≡ collected_of self src.now }
+    // Stores the item that a row becomes, and counts it.
+    fn store(&mut self, kind: Kind, row: Record)
+        requires { count_of self.old.count kind < room_of kind }
+        ensures { self.new ≡ with self.old kind row.fields }
     {
-        let mut at: usize = 0;
-        let mut taken: usize = 0;
-        while at < src.len() {
-            let e = record_end(at, src.len());
-            let head = checks::head_of(&src[at..e]);
-            let Head::Of(kind) = head else {
-                return Collected {
-                    case: self,
-                    answer: refusal(head),
-                    taken: taken,
-                };
-            };
-            let row = Record::read(&src[at..e]);
-            let answer = standing::answer_of(self.count, self.loops, kind, row);
-            if answers::is_taken(answer) {
-                match kind {
-                    Kind::State => {
-                        let n = self.count.states;
-                        let state = items::state_of(row);
-                        self.states[n] = state;
-                        self.count.states = n + 1;
-                    }
-                    Kind::Weights => {
-                        let n = self.count.weights;
-                        let weights = items::weights_of(row);
-                        self.weights[n] = weights;
-                        self.count.weights = n + 1;
-                    }
-                    Kind::Guard => {
-                        let n = self.count.guards;
-                        let guard = items::guard_of(row);
-                        self.guards[n] = guard;
-                        self.count.guards = n + 1;
-                    }
-                    Kind::Move => {
-                        let n = self.count.moves;
-                        let transition = items::move_of(row);
-                        self.moves[n] = transition;
-                        self.count.moves = n + 1;
-                    }
-                    Kind::Sentence => {
-                        let n = self.count.sentences;
-                        let sentence = items::sentence_of(row);
-                        self.sentences[n] = sentence;
-                        self.count.sentences = n + 1;
-                    }
-                    Kind::Place => {
-                        let n = self.count.places;
-                        let place = items::place_of(row);
-                        self.places[n] = place;
-                        self.count.places = n + 1;
-                        let mark = place.mark;
-                        let loops = self.loops.after(n, mark);
-                        self.loops = loops;
-                        if loops.ends_at(n) {
-                            let first = loops.first;
-                            let q = first.0;
-                            let sums = self.round_from(q, n);
-                            self.drifts[q] = sums;
-                        }
-                    }
-                }
-            } else {
-                return Collected {
-                    case: self,
-                    answer: answer,
-                    taken: taken,
-                };
+        match kind {
+            Kind::State => {
+                self.states[self.count.states] = items::state_of(row);
+                self.count.states += 1;
             }
-            at = e;
-            taken = taken + 1;
+            Kind::Weights => {
+                self.weights[self.count.weights] = items::weights_of(row);
+                self.count.weights += 1;
+            }
+            Kind::Guard => {
+                self.guards[self.count.guards] = items::guard_of(row);
+                self.count.guards += 1;
+            }
+            Kind::Move => {
+                self.moves[self.count.moves] = items::move_of(row);
+                self.count.moves += 1;
+            }
+            Kind::Sentence => {
+                self.sentences[self.count.sentences] = items::sentence_of(row);
+                self.count.sentences += 1;
+            }
+            Kind::Place => {
+                let n = self.count.places;
+                let place = items::place_of(row);
+                self.places[n] = place;
+                self.count.places += 1;
+                self.loops = self.loops.after(n, place.mark);
+                if self.loops.ends_at(n) {
+                    let q = self.loops.first.0;
+                    self.drifts[q] = self.round_from(q, n);
+                }
+            }
         }
-        Collected {
-            case: self,
-            answer: Answer::Taken,
-            taken: taken,
-        }
+    }
+
+    // Takes one record in place: its item is held from then on, or the case stays as it was.
+    #[tactic(auto, using(crate::proofs::Laws::whole), unfolding(crate::specs::Taking::taken_of, crate::specs::Taking::taken_as))]
+    fn add(&mut self, bytes: &[u8]) -> Result<(), Refusal>
+        ensures answer { result ≡ (taken_of self.old bytes.now).answer }
+        ensures case { self.new ≡ (taken_of self.old bytes.now).case }
+    {
+        let kind = checks::head_of(bytes)?;
+        let row = Record::read(bytes);
+        standing::answer_of(self.count, self.loops, kind, row)?;
+        self.store(kind, row);
+        Ok(())
     }
 
     // Takes one record: the case with its item, or the case as it was.
-    pub fn take(self, bytes: &[u8]) -> Result
+    pub fn take(mut self, bytes: &[u8]) -> Taken
         ensures { result ≡ taken_of self bytes.now }
     {
-        if bytes.len() != Record::LENGTH {
-            return Result {
-                case: self,
-                answer: Answer::NotARecord,
-            };
-        }
-        let run = self.take_all(bytes);
-        let case = run.case;
-        let answer = run.answer;
-        Result {
-            case: case,
-            answer: answer,
-        }
+        let answer = self.add(bytes);
+        Taken { case: self, answer }
     }
-}
 
-// Where the record that begins at `at` ends: a record's length further, or at the end of the file.
-fn record_end(at: usize, length: usize) -> usize
-    requires { at ≤ length }
-    ensures { result ≡ at + min record_length (length - at) }
-{
-    if length - at < Record::LENGTH {
-        length
-    } else {
-        at + Record::LENGTH
+    // Takes the records of a file in order, up to the first that is refused: how many were taken, and why that one is refused.
+    pub fn take_all(&mut self, src: &[u8]) -> Result<usize, (usize, Refusal)>
+        ensures value { result ≡ counted (collected_of self.old src.now) }
+        ensures case { self.new ≡ (collected_of self.old src.now).case }
+    {
+        let mut taken = 0;
+        for bytes in src.chunks(Record::LENGTH) {
+            if let Err(refusal) = self.add(bytes) {
+                return Err((taken, refusal));
+            }
+            taken += 1;
+        }
+        Ok(taken)
     }
 }

@@ -21,7 +21,7 @@ pub fn zero() -> Counters
     ensures { result.at ≡ vec (λ j. pos 0) }
 {
     Counters {
-        at: [0i64; PerCounter::COUNT],
+        at: [0; PerCounter::COUNT],
     }
 }
 
@@ -30,15 +30,11 @@ pub fn plus(v: Counters, u: PerCounter) -> Counters
     requires { (j : ℕ) → j < counters → size (value_at v j) + 2 ^ 15 < 2 ^ 63 }
     ensures { (result.at ≡ vec (λ j. value_at v j +ℤ number_at u j)) × ((j : ℕ) → j < counters → size (number_at u j) ≤ 2 ^ 15) }
 {
-    let x = v.at;
-    let y = u.at;
-    let mut each = [0i64; PerCounter::COUNT];
-    let mut j: usize = 0;
-    while j < PerCounter::COUNT {
-        each[j] = x[j] + y[j] as i64;
-        j = j + 1;
+    let mut at = [0; PerCounter::COUNT];
+    for j in 0..PerCounter::COUNT {
+        at[j] = v.at[j] + i64::from(u.at[j]);
     }
-    Counters { at: each }
+    Counters { at }
 }
 
 // n times b more, counter by counter.
@@ -46,15 +42,11 @@ pub fn more(a: Counters, n: i64, b: Counters) -> Counters
     requires { (j : ℕ) → j < counters → size (value_at a j) + size n * size (value_at b j) < 2 ^ 63 }
     ensures { result.at ≡ vec (λ j. value_at a j +ℤ n *ℤ value_at b j) }
 {
-    let x = a.at;
-    let y = b.at;
-    let mut each = [0i64; PerCounter::COUNT];
-    let mut j: usize = 0;
-    while j < PerCounter::COUNT {
-        each[j] = x[j] + n * y[j];
-        j = j + 1;
+    let mut at = [0; PerCounter::COUNT];
+    for j in 0..PerCounter::COUNT {
+        at[j] = a.at[j] + n * b.at[j];
     }
-    Counters { at: each }
+    Counters { at }
 }
 
 // The sum of coefficient times counter.
@@ -62,13 +54,9 @@ pub fn dot(c: PerCounter, v: Counters) -> i64
     requires { sizes c.at (value_at v) < 2 ^ 63 }
     ensures { result ≡ sum c.at (value_at v) }
 {
-    let x = c.at;
-    let y = v.at;
-    let mut total: i64 = 0;
-    let mut j: usize = 0;
-    while j < PerCounter::COUNT {
-        total = total + (x[j] as i64) * y[j];
-        j = j + 1;
+    let mut total = 0;
+    for j in 0..PerCounter::COUNT {
+        total += i64::from(c.at[j]) * v.at[j];
     }
     total
 }

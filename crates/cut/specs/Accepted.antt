@@ -1,10 +1,9 @@
 -- A case with a counted loop cut in two is accepted exactly where the case is: each way of the one plan has its like in the other, and what they name is there.
 -- Assumes nothing.
-use Rattle.std.specs.Prelude.{◌≡◌, refl, ◌↔◌, List, Bool, true, false, ℕ, ◌+◌, ◌-◌, ◌≤◌, ◌<◌, length}
+use Rattle.std.specs.Prelude.{◌≡◌, refl, ◌↔◌, List, Bool, true, false, ℕ, ◌+◌, ◌-◌, ◌≤◌, ◌<◌, length, Some}
 use Rattle.std.proofs.Common.{sym, ◌∙◌, ap, subst, arith}
 use Rattle.std.proofs.Math.Decide.{dec_lt}
 use Rattle.counters.specs.Sum.{Valuation}
-use Rattle.items.specs.declared.Ref.TheVariants as ref
 use Rattle.items.specs.declared.Place.{Place}
 use Rattle.items.specs.Lists.{Items, with_places}
 use Rattle.rules.specs.Rules.{mark_at}
@@ -120,10 +119,10 @@ module _ (x : Items) (f : Resolved x) {p l b m k : ℕ} (c : Cuts x.places p l b
         laid = halves_laid c;
         states = λ q h. by_place c (λ z. z.state < length x.states) q (λ e. f.states p first) (f.states p first) (λ i g o. f.states i (g h));
         ways = λ q o h.
-            by_place c (λ z. (t : ℕ) × (z.way ≡ ref.At t) × (t < length x.moves)) q
+            by_place c (λ z. (t : ℕ) × (z.way ≡ Some t) × (t < length x.moves)) q
             (λ e. f.ways p (omega arith) first) (b, refl, f.backs p b first (ap back_of c.is)) (λ i g w. f.ways i (w o) (g h));
         backs = λ q t h.
-            by_place c (λ z. back_of z.mark ≡ ref.At t → t < length x.moves) q
+            by_place c (λ z. back_of z.mark ≡ Some t → t < length x.moves) q
             (λ w e. f.backs p t first (sym (back m) ∙ e)) (λ e. f.backs p t first (sym (back k) ∙ e)) (λ i g o. f.backs i t (g h));
         guards = f.guards;
       }

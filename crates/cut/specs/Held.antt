@@ -1,13 +1,12 @@
 -- A case with a loop cut in two: its file spells it; where the case is closed and 64 places are enough, it has what every case has that records make. Assumes
 -- nothing.
-use Rattle.std.specs.Prelude.{◌≡◌, ◌↔◌, List, ℕ, ◌+◌, ◌-◌, ◌≤◌, ◌<◌, length}
+use Rattle.std.specs.Prelude.{◌≡◌, ◌↔◌, List, ℕ, ◌+◌, ◌-◌, ◌≤◌, ◌<◌, length, None}
 use Rattle.std.proofs.Common.{sym, ◌∙◌, ap, subst, arith}
 use Rattle.std.proofs.Math.Decide.{dec_lt}
 use Rattle.kinds.specs.declared.Kind.TheVariants as kind
 use Rattle.counters.specs.Sum.{Valuation}
 use Rattle.items.specs.declared.LoopMark.{LoopMark}
 use Rattle.items.specs.declared.LoopMark.TheVariants as mark
-use Rattle.items.specs.declared.Ref.TheVariants as ref
 use Rattle.items.specs.declared.Place.{Place}
 use Rattle.items.specs.Lists.{Items, room_of, with_places}
 use Rattle.items.specs.File.{file_of}
@@ -83,7 +82,7 @@ module _ {c : Case} (s : Sound c) {p l b m k : ℕ} (u : Cuts (items_of c).place
   known = halves_resolved x (facts c s).resolved u
 
   -- field 2 is blank exactly at place 0
-  ways : (q : ℕ) → q < length qs → (q ≡ 0) ↔ ((place_at qs q).way ≡ ref.None)
+  ways : (q : ℕ) → q < length qs → (q ≡ 0) ↔ ((place_at qs q).way ≡ None)
   ways q h = (
     λ e. ap (λ i. (place_at qs i).way) e ∙ low_way u 0 (omega (arith, has_one u)) ∙ (facts c s).start,
     λ e. elim (dec_lt 0 q) [

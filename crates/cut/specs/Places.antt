@@ -1,5 +1,5 @@
 -- The places of a plan with a loop cut in two: each is a copy of one of the plan, and the loops lie well. Assumes nothing.
-use Rattle.std.specs.Prelude.{◌≡◌, refl, ◌↔◌, List, true, take, drop}
+use Rattle.std.specs.Prelude.{◌≡◌, refl, ◌↔◌, List, true, take, drop, Some}
 use Rattle.std.proofs.Common.{sym, ◌∙◌, length-take, length-drop}
 use Rattle.std.proofs.Math.Path.{ap, subst}
 use Rattle.std.proofs.lemmas.Bool.{false≢true}
@@ -11,8 +11,6 @@ use Rattle.std.proofs.Math.Seq.{get_or-take, get_or-drop, get_or-append-add, get
 use Rattle.kinds.specs.declared.Kind.TheVariants as kind
 use Rattle.items.specs.declared.LoopMark.{LoopMark}
 use Rattle.items.specs.declared.LoopMark.TheVariants as mark
-use Rattle.items.specs.declared.Ref.{Ref}
-use Rattle.items.specs.declared.Ref.TheVariants as ref
 use Rattle.items.specs.declared.Place.{Place}
 use Rattle.items.specs.Lists.{Items, no_item, with_places}
 use Rattle.rules.specs.Rules.{mark_at, length_of, is_endless, end_at, Closed}
@@ -21,6 +19,7 @@ use Rattle.meaning.specs.Rounds.{mark_with, place_with, places_with}
 use Rattle.meaning.specs.Cut.{place_by, entered_by, halves}
 use Rattle.meaning_laws.specs.Facts.{Laid}
 use Rattle.meaning_laws.specs.Plans.{mark_keeps, loop_same, none_same, other_rounds}
+use Rattle.items.specs.Items.{Ref}
 
 -- ---- copies
 
@@ -165,7 +164,7 @@ module _ {ps : List Place} {p l b m k : ℕ} (c : Cuts ps p l b m k) where
         | yes g ↦ subst (λ r. Copy r (place_at ps i)) (sym (high_same i g)) (record { state = refl; marks = refl; loop = refl })
         | no g ↦
             let e : p ≡ i = omega arith in
-            subst (λ z. Copy (place_at qs (z + l)) (place_at ps z)) e (subst (λ r. Copy r (place_at ps p)) (sym second_place) (copied (ref.At b) k (place_at ps p)))
+            subst (λ z. Copy (place_at qs (z + l)) (place_at ps z)) e (subst (λ r. Copy r (place_at ps p)) (sym second_place) (copied (Some b) k (place_at ps p)))
       ])
 
   pub low_way : (q : ℕ) → q < p + l → (place_at (halves ps p l b m k) q).way ≡ (place_at ps q).way

@@ -1,7 +1,7 @@
 -- Where filling stands at each turn of its loop: the marks are right below the first sentence that isn't marked as it is, and the rest of the way is that of the
 -- definition. Assumes nothing.
-use Rattle.std.specs.Prelude.{◌≡◌, Bool, cond, not, eqb, ltb, get_or}
-use Rattle.std.proofs.Math.Path.{refl, ap}
+use Rattle.std.specs.Prelude.{◌≡◌, Bool, cond, not, eqb, ltb, get_or, None, Option, Some}
+use Rattle.std.proofs.Math.Path.{refl, ap, ap₂}
 use Rattle.std.proofs.Common.{sym, ◌∙◌, subst, true≢false, add-zero, lt-ltb, le-ltb}
 use Rattle.std.proofs.Math.Bool.{true, false}
 use Prim.Native.Nat.{ℕ, zero, suc, ◌+◌, ◌*◌, ◌-◌, ◌≤◌, ◌<◌, ◌^◌}
@@ -115,41 +115,52 @@ module _ (y : Items) (few : length y.places ≤ room_of kind.Place) (i : ℕ) wh
 
 -- ---- up to the first sentence that is off
 
--- it is none before
-pub off_after : (y : Items) (j d : ℕ) → j ≤ (first_off_of y j d).sentence
-unfolding first_off_of
-off_after y j zero = omega arith
-off_after y j (suc d) = by (sentence_row y j).off (off_after y (suc j) d)
-  where
-    by : (t : Bool) → suc j ≤ (first_off_of y (suc j) d).sentence → j ≤ (cond t (record { sentence = j; row = sentence_row y j }) (first_off_of y (suc j) d)).sentence
-    by true h = omega arith
-    by false h = omega (arith, h)
+-- the sentence of r, and where there is none, the number n of all
+abbrev pub stop_at : ℕ → Option Off → ℕ
+stop_at n None = n
+stop_at n (Some r) = r.sentence
 
--- filling x stands at the sentence of r, with the marks of y
-pub record Stands (x y : Items) (r : Off) : Type 0 where
-  pub rest : filled_of x (start_of x) ≡ fill_from y (start_of y) r.sentence (length y.sentences - r.sentence)
-  pub below : MarkedBelow y (start_of y) r.sentence
-  pub within : r.sentence ≤ length y.sentences
-  pub row : r.sentence < length y.sentences → r.row ≡ sentence_row y r.sentence
+-- it is none before
+pub off_after : (y : Items) (i j d : ℕ) {n : ℕ} → i ≤ j → i ≤ n → i ≤ stop_at n (first_off_of y j d)
+unfolding first_off_of
+off_after y i j zero h l = l
+off_after y i j (suc d) {n} h l = by (sentence_row y j).off (first_off_of y (suc j) d) (off_after y i (suc j) d (omega arith) l)
+  where
+    by : (t : Bool) (r : Option Off) → i ≤ stop_at n r → i ≤ stop_at n (cond t (Some (record { sentence = j; row = sentence_row y j })) r)
+    by true r e = h
+    by false r e = e
+
+-- a sentence that is off is one of the sentences, with its row
+abbrev pub IsOff : Items → Option Off → Type 0
+IsOff y None = Unit {0}
+IsOff y (Some r) = (r.sentence < length y.sentences) × (r.row ≡ sentence_row y r.sentence)
+
+-- filling x stands at the sentence of r, or past all, with the marks of y
+pub record Stands (x y : Items) (r : Option Off) : Type 0 where
+  pub rest : filled_of x (start_of x) ≡ fill_from y (start_of y) (stop_at (length y.sentences) r) (length y.sentences - stop_at (length y.sentences) r)
+  pub below : MarkedBelow y (start_of y) (stop_at (length y.sentences) r)
+  pub within : stop_at (length y.sentences) r ≤ length y.sentences
+  pub row : IsOff y r
 
 module _ (x y : Items) (few : length y.places ≤ room_of kind.Place) (k : Facts y) (o : Closed y) where
   stands_from : (d j : ℕ) → j + d ≡ length y.sentences → filled_of x (start_of x) ≡ fill_from y (start_of y) j d → MarkedBelow y (start_of y) j
       → Stands x y (first_off_of y j d)
   unfolding first_off_of
   stands_from zero j e w b =
-      let d : 0 ≡ length y.sentences - j = omega arith in
-      record { rest = w ∙ ap (fill_from y (start_of y) j) d; below = b; within = omega arith; row = λ l. absurd (omega arith) }
+      let n : j ≡ length y.sentences = omega arith in
+      let d : 0 ≡ length y.sentences - length y.sentences = omega arith in
+      record { rest = w ∙ ap₂ (fill_from y (start_of y)) n d; below = subst (MarkedBelow y (start_of y)) n b; within = omega arith; row = tt }
   stands_from (suc d) j e w b =
       by (sentence_row y j).off refl
       (λ h. stands_from d (suc j) (omega arith) (w ∙ pass_on y few j b h d) (pass_below y few j b h k o (omega arith)))
     where
       by : (t : Bool) → (sentence_row y j).off ≡ t → ((sentence_row y j).off ≡ false → Stands x y (first_off_of y (suc j) d))
-          → Stands x y (cond t (record { sentence = j; row = sentence_row y j }) (first_off_of y (suc j) d))
+          → Stands x y (cond t (Some (record { sentence = j; row = sentence_row y j })) (first_off_of y (suc j) d))
       by true v h =
           let c : suc d ≡ length y.sentences - j = omega arith in
-          record { rest = w ∙ ap (fill_from y (start_of y) j) c; below = b; within = omega arith; row = λ l. refl }
+          record { rest = w ∙ ap (fill_from y (start_of y) j) c; below = b; within = omega arith; row = (omega arith, refl) }
       by false v h = h v
 
   pub stands_at : (j : ℕ) → j ≤ length y.sentences → filled_of x (start_of x) ≡ fill_from y (start_of y) j (length y.sentences - j)
-      → MarkedBelow y (start_of y) j → {r : Off} → r ≡ first_off_from y j → Stands x y r
+      → MarkedBelow y (start_of y) j → {r : Option Off} → r ≡ first_off_from y j → Stands x y r
   stands_at j h w b e = subst (Stands x y) (sym e) (stands_from (length y.sentences - j) j (omega arith) w b)

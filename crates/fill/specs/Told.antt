@@ -1,13 +1,11 @@
--- What filling hands back, by each of its ends, and what each answer tells. Assumes nothing.
-use Rattle.std.specs.Prelude.{◌≡◌, refl, ℕ}
+-- What filling leaves and tells, by each of its ends, and what each answer tells. Assumes nothing.
+use Rattle.std.specs.Prelude.{◌≡◌, refl, ℕ, Err, Ok}
 use Rattle.std.proofs.Common.{sym, ◌∙◌, subst, ⊎_elim}
 use Rattle.std.proofs.Math.Path.{ap, ap₂}
 use Rattle.laws.specs.Members.{all_first}
 use Rattle.counters.specs.Sum.{Valuation}
-use Rattle.answers.specs.declared.Filling.{Filling}
-use Rattle.answers.specs.declared.Filling.TheVariants.{Marked, Refused, Changes}
-use Rattle.answers.specs.declared.Judgement.{Judgement}
-use Rattle.answers.specs.declared.Judgement.TheVariants.{Accepted, Unfinished, WrongStart, Unconnected, GuardFails, WrongMark, RootUnmarked}
+use Rattle.answers.specs.declared.NotFilled.TheVariants.{Refused, Changes}
+use Rattle.answers.specs.declared.Rejection.TheVariants.{Unfinished, WrongStart, Unconnected, GuardFails, WrongMark, RootUnmarked}
 use Rattle.items.specs.Lists.{Items}
 use Rattle.meaning.specs.Judged.{start_of, Guarded, Judged}
 use Rattle.meaning_laws.specs.Lists.{mark_for}
@@ -18,57 +16,48 @@ use Rattle.collector.specs.Cases.{items_of, case_of}
 use Rattle.collector.specs.Sound.{Sound}
 use Rattle.fill_laws.specs.Unlooked.{Before34}
 use Rattle.fill_laws.specs.Theorems.{checked, given_sound}
-use Rattle.fill.specs.declared.Filled.{Filled}
-use Rattle.fill.specs.Filled.{filled_by, filled_case}
+use Rattle.fill.specs.Filled.{Filled, filled_by, filled_case}
+use Rattle.answers.specs.declared.Rejection.{Rejection}
+use Rattle.answers.specs.Answers.{Filling, Judgement}
 
 module _ (c : Case) where
-  refused_by : (a : Judgement) (m : Marking) → (a ≡ Accepted → ⊥) → record { case = c; answer = Refused a } ≡ filled_by c a m
-  refused_by Accepted m h = absurd (h refl)
-  refused_by (Unfinished n) m h = refl
-  refused_by WrongStart m h = refl
-  refused_by (Unconnected p t) m h = refl
-  refused_by (GuardFails p g) m h = refl
-  refused_by (WrongMark p i) m h = refl
-  refused_by (RootUnmarked r) m h = refl
-
   -- the items
   abbrev x : Items
   x = items_of c
 
-  pub refused : {a : Judgement} → a ≡ before_marks (items_of c) (start_of (items_of c)) → (before_marks (items_of c) (start_of (items_of c)) ≡ Accepted → ⊥)
-      → record { case = c; answer = Refused a } ≡ filled_case c
+  pub refused : {a : Rejection} → Err a ≡ before_marks (items_of c) (start_of (items_of c)) → record { case = c; answer = Err (Refused a) } ≡ filled_case c
   unfolding filled_case
-  refused {a} e h = refused_by a (filled_of x (start_of x)) (λ w. h (sym e ∙ w)) ∙ ap (λ a. filled_by c a (filled_of x (start_of x))) e
+  refused e = ap (λ a. filled_by c a (filled_of x (start_of x))) e
 
   -- where none of the checks before applies
-  module _ (a : before_marks (items_of c) (start_of (items_of c)) ≡ Accepted) where
-    by_marking : {m : Marking} → filled_of x (start_of x) ≡ m → filled_case c ≡ filled_by c Accepted m
+  module _ (a : before_marks (items_of c) (start_of (items_of c)) ≡ Ok tt) where
+    by_marking : {m : Marking} → filled_of x (start_of x) ≡ m → filled_case c ≡ filled_by c (Ok tt) m
     unfolding filled_case
     by_marking e = ap₂ (filled_by c) a e
 
-    pub changed : {i p : ℕ} → filled_of (items_of c) (start_of (items_of c)) ≡ changes (mark_for i p) → record { case = c; answer = Changes (record { 0 = p }) i } ≡ filled_case c
+    pub changed : {i p : ℕ} → filled_of (items_of c) (start_of (items_of c)) ≡ changes (mark_for i p) → record { case = c; answer = Err (Changes (record { 0 = p }) i) } ≡ filled_case c
     changed e = sym (by_marking e)
 
-    pub all_marked : {y : Items} {d : Case} → filled_of (items_of c) (start_of (items_of c)) ≡ given y → d ≡ case_of y → record { case = d; answer = Marked } ≡ filled_case c
-    all_marked e w = ap (λ d. record { case = d; answer = Marked }) w ∙ sym (by_marking e)
+    pub all_marked : {y : Items} {d : Case} → filled_of (items_of c) (start_of (items_of c)) ≡ given y → d ≡ case_of y → record { case = d; answer = Ok tt } ≡ filled_case c
+    all_marked e w = ap (λ d. record { case = d; answer = Ok tt }) w ∙ sym (by_marking e)
 
 -- ---- what each answer tells
 
 -- a refusal before those of marks isn't told where none of them applies
 pub excluded : (x : Items) (θ : Valuation) (a : Judgement) → Before34 a → Judged x θ a → Guarded x θ → ⊥
-excluded x θ (Unfinished n) b j g = j.0 g.0.0.0
-excluded x θ WrongStart b j g = j.1 g.0.0.1
-excluded x θ (Unconnected p t) b j g = all_first (λ w c n. n c) g.0.1 j.1.1
-excluded x θ (GuardFails p i) b j g = all_first (λ t h f. f.unmet (h.met f.moment f.way)) g.1 j.1.1
-excluded x θ (WrongMark p i) b j g = b
-excluded x θ (RootUnmarked r) b j g = b
-excluded x θ Accepted b j g = b
+excluded x θ (Err (Unfinished n)) b j g = j.0 g.0.0.0
+excluded x θ (Err WrongStart) b j g = j.1 g.0.0.1
+excluded x θ (Err (Unconnected p t)) b j g = all_first (λ w c n. n c) g.0.1 j.1.1
+excluded x θ (Err (GuardFails p i)) b j g = all_first (λ t h f. f.unmet (h.met f.moment f.way)) g.1 j.1.1
+excluded x θ (Err (WrongMark p i)) b j g = b
+excluded x θ (Err (RootUnmarked r)) b j g = b
+excluded x θ (Ok tt) b j g = b
 
--- by each answer: what it tells of the case c, and of the case d that is handed back with it
+-- by each answer: what it tells of the case c, and of the case d after the call
 abbrev pub Tells : Case → Case → Filling → Type 0
-Tells c d (Refused a) = (d ≡ c) × Before34 a × Judged (items_of c) (start_of (items_of c)) a
-Tells c d (Changes p i) = (d ≡ c) × Guarded (items_of c) (start_of (items_of c)) × (filled_of (items_of c) (start_of (items_of c)) ≡ changes (mark_for i p.0))
-Tells c d Marked = (y : Items) × Guarded (items_of c) (start_of (items_of c)) × (filled_of (items_of c) (start_of (items_of c)) ≡ given y) × (d ≡ case_of y)
+Tells c d (Err (Refused a)) = (d ≡ c) × Before34 (Err a) × Judged (items_of c) (start_of (items_of c)) (Err a)
+Tells c d (Err (Changes p i)) = (d ≡ c) × Guarded (items_of c) (start_of (items_of c)) × (filled_of (items_of c) (start_of (items_of c)) ≡ changes (mark_for i p.0))
+Tells c d (Ok tt) = (y : Items) × Guarded (items_of c) (start_of (items_of c)) × (filled_of (items_of c) (start_of (items_of c)) ≡ given y) × (d ≡ case_of y)
 
 module _ (c : Case) (s : Sound c) where
   -- the items
@@ -76,24 +65,29 @@ module _ (c : Case) (s : Sound c) where
   z = items_of c
 
   -- where none of 24, 31, 32 and 33 applies, the checks for them say so
-  pub checks_pass : Guarded (items_of c) (start_of (items_of c)) → before_marks (items_of c) (start_of (items_of c)) ≡ Accepted
+  pub checks_pass : Guarded (items_of c) (start_of (items_of c)) → before_marks (items_of c) (start_of (items_of c)) ≡ Ok tt
   checks_pass g = ⊎_elim (λ (b, j). absurd (excluded z (start_of z) (before_marks z (start_of z)) b j g)) (λ (e, h). e) (checked c s (start_of z))
+
+  -- where one of these applies
+  early : (a : Judgement) → a ≡ before_marks (items_of c) (start_of (items_of c)) → Before34 a → Judged (items_of c) (start_of (items_of c)) a → Tells c (filled_case c).case (filled_case c).answer
+  early (Err a) e b j = subst (λ (r : Filled). Tells c r.case r.answer) (refused c e) (refl, b, j)
+  early (Ok tt) e b j = absurd b
 
   pub tells : Tells c (filled_case c).case (filled_case c).answer
   tells =
       ⊎_elim
-      (λ (b, j). subst (λ (r : Filled). Tells c r.case r.answer) (refused c refl (λ e. subst Before34 e b)) (refl, b, j))
+      (λ (b, j). early (before_marks z (start_of z)) refl b j)
       (λ (e, g). subst (λ (r : Filled). Tells c r.case r.answer) (sym (by_marking c e refl)) (by g (filled_of z (start_of z)) refl)) (checked c s (start_of z))
     where
-      by : Guarded z (start_of z) → (m : Marking) → filled_of z (start_of z) ≡ m → Tells c (filled_by c Accepted m).case (filled_by c Accepted m).answer
+      by : Guarded z (start_of z) → (m : Marking) → filled_of z (start_of z) ≡ m → Tells c (filled_by c (Ok tt) m).case (filled_by c (Ok tt) m).answer
       by g (given y) w = (y, g, w, refl)
       by g (changes k) w = (refl, g, w)
 
-  -- a case that is handed back has what every case has that records make
+  -- the case after the call has what every case has that records make
   pub filled_sound : {r : Filled} → r ≡ filled_case c → Sound r.case
   filled_sound e = subst (λ (r : Filled). Sound r.case) (sym e) (by (filled_case c).answer tells)
     where
       by : (a : Filling) → Tells c (filled_case c).case a → Sound (filled_case c).case
-      by (Refused a) t = subst Sound (sym t.0) s
-      by (Changes p i) t = subst Sound (sym t.0) s
-      by Marked (y, g, w, d) = subst Sound (sym d) (given_sound c s g.0.0.0.1 (start_of z) y w).0
+      by (Err (Refused a)) t = subst Sound (sym t.0) s
+      by (Err (Changes p i)) t = subst Sound (sym t.0) s
+      by (Ok tt) (y, g, w, d) = subst Sound (sym d) (given_sound c s g.0.0.0.1 (start_of z) y w).0

@@ -1,5 +1,5 @@
 -- The turns of filling a case: what is known of the marks so far, of the case with them and of its first sentence that is off. Assumes nothing.
-use Rattle.std.specs.Prelude.{◌≡◌, ℕ, suc, ◌+◌, ◌*◌, ◌-◌, ◌≤◌, ◌<◌, ◌^◌, get_or}
+use Rattle.std.specs.Prelude.{◌≡◌, ℕ, suc, ◌+◌, ◌*◌, ◌-◌, ◌≤◌, ◌<◌, ◌^◌, get_or, None, Option, Some}
 use Rattle.std.proofs.Common.{sym, ◌∙◌, ap, subst, lit≤}
 use Rattle.std.proofs.Math.Nat.{pow-le-pow_right}
 use Rattle.std.proofs.Math.Decide.{dec_lt}
@@ -40,8 +40,8 @@ use Rattle.fill.specs.Steps.{change_found, change_none, bits_are, Stands, stands
 abbrev pub items_with : Case → Marks → Items
 items_with c m = with_marks (items_of c) (marks_by m)
 
--- filling c stands at the sentence of r, with the marks m, and d is the case with them
-pub record Turn (c : Case) (m : Marks) (d : Case) (r : Off) : Type 0 where
+-- filling c stands at the sentence of r, or past all, with the marks m, and d is the case with them
+pub record Turn (c : Case) (m : Marks) (d : Case) (r : Option Off) : Type 0 where
   pub is : d ≡ case_of (items_with c m)
   pub past : (p : ℕ) → length (items_of c).places ≤ p → marks_by m p ≡ 0
   pub stands : Stands (items_of c) (items_with c m) r
@@ -76,7 +76,7 @@ module _ (c : Case) (s : Sound c) (o : Closed (items_of c)) where
 
     -- and where filling then stands
     pub reached : filled_of x (start_of x) ≡ fill_from y (start_of y) i (length x.sentences - i) → ((p : ℕ) → n ≤ p → marks_by m p ≡ 0)
-        → {r : Off} → r ≡ first_off_from (items_of d) i → Turn c m d r
+        → {r : Option Off} → r ≡ first_off_from (items_of d) i → Turn c m d r
     reached w z q =
         record {
           is = e;
@@ -103,7 +103,7 @@ module _ (c : Case) (s : Sound c) (o : Closed (items_of c)) where
 
   -- ---- at a sentence that is off
 
-  module _ {m : Marks} {d : Case} {r : Off} (t : Turn c m d r) (l : r.sentence < length x.sentences) where
+  module _ {m : Marks} {d : Case} {r : Off} (t : Turn c m d (Some r)) (l : r.sentence < length x.sentences) where
     abbrev z : Items
     z = items_with c m
 
@@ -123,27 +123,27 @@ module _ (c : Case) (s : Sound c) (o : Closed (items_of c)) where
     pub told_change : change_in r.row n < n → filled_of x (start_of x) ≡ changes (mark_for j (change_in r.row n))
     told_change h =
         t.stands.rest ∙ rest_more
-        ∙ fill_stop z (start_of z) j (length x.sentences - (j + 1)) (mark_for j (change_in r.row n)) (change_found z few_too j (t.stands.row l) same_long h)
+        ∙ fill_stop z (start_of z) j (length x.sentences - (j + 1)) (mark_for j (change_in r.row n)) (change_found z few_too j t.stands.row.1 same_long h)
 
     -- or it doesn't: its bits are set
     module _ (h : n ≤ change_in r.row n) where
       bits : (p : ℕ) → p < n → marks_by m p + get_or r.row.at p 0 * 2 ^ j ≡ marks_with z (start_of z) j p
       bits p a =
           ap (λ k. k + get_or r.row.at p 0 * 2 ^ j) (sym (marks_at_lem (marks_by m) x.places p a))
-          ∙ bits_are z few_too j (t.stands.row l) same_long h p (omega (arith, same_long))
+          ∙ bits_are z few_too j t.stands.row.1 same_long h p (omega (arith, same_long))
 
       steady : MarkedBelow (with_marks z (marks_with z (start_of z) j)) (start_of z) (suc j)
       steady =
           let y = still_sound m j t.stands.within t.stands.below t.is in
           marked_more z (subst Facts (items_of_lem z) (facts (case_of z) y)) (still_closed x (marks_by m) o) (start_of z) j l t.stands.below
-          (change_none z few_too j (t.stands.row l) same_long h)
+          (change_none z few_too j t.stands.row.1 same_long h)
 
       -- past the places there is nothing to set
       no_bits : (p : ℕ) → n ≤ p → p < room_of kind.Place → marks_by m p + get_or r.row.at p 0 * 2 ^ j ≡ 0
       no_bits p a b =
           let f = form_through z (start_of z) (form_at z j) in
           let g : get_or r.row.at p 0 ≡ 0 =
-          ap (λ (w : Row). get_or w.at p 0) (t.stands.row l) ∙ entry (code_at z f) (room_of kind.Place) p 0 b ∙ code_past z j f p (omega (arith, same_long)) in
+          ap (λ (w : Row). get_or w.at p 0) t.stands.row.1 ∙ entry (code_at z f) (room_of kind.Place) p 0 b ∙ code_past z j f p (omega (arith, same_long)) in
           rw (t.past p a, g) (omega arith)
 
       -- they fit
@@ -179,7 +179,7 @@ module _ (c : Case) (s : Sound c) (o : Closed (items_of c)) where
         more_rest =
             let q : suc j ≡ j + 1 = omega arith in
             t.stands.rest ∙ rest_more
-            ∙ fill_turn z (start_of z) j (length x.sentences - (j + 1)) (change_none z few_too j (t.stands.row l) same_long h)
+            ∙ fill_turn z (start_of z) j (length x.sentences - (j + 1)) (change_none z few_too j t.stands.row.1 same_long h)
             ∙ rw (start_is, new_is) (ap (λ i. fill_from (with_marks z (marks_with z (start_of z) j)) (start_of z) i (length x.sentences - (j + 1))) q)
 
         pub more_past : (p : ℕ) → n ≤ p → marks_by k p ≡ 0
@@ -194,7 +194,8 @@ module _ (c : Case) (s : Sound c) (o : Closed (items_of c)) where
 
   -- ---- at the end
 
-  pub all_filled : {m : Marks} {d : Case} {r : Off} (t : Turn c m d r) → length x.sentences ≤ r.sentence → filled_of x (start_of x) ≡ given (items_with c m)
-  all_filled {m} {r = r} t h =
-      let e : length x.sentences - r.sentence ≡ 0 = omega arith in
-      t.stands.rest ∙ ap (fill_from (items_with c m) (start_of (items_with c m)) r.sentence) e ∙ fill_end (items_with c m) (start_of (items_with c m)) r.sentence
+  pub all_filled : {m : Marks} {d : Case} (t : Turn c m d None) → filled_of x (start_of x) ≡ given (items_with c m)
+  all_filled {m} t =
+      let n = length x.sentences in
+      let e : n - n ≡ 0 = omega arith in
+      t.stands.rest ∙ ap (fill_from (items_with c m) (start_of (items_with c m)) n) e ∙ fill_end (items_with c m) (start_of (items_with c m)) n

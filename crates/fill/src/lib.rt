@@ -8,11 +8,12 @@ ghost use Rattle.items.specs.Lists.{room_of};
 ghost use Rattle.meaning.specs.Marking.{with_marks};
 ghost use Rattle.collector.specs.Cases.{items_of, case_of};
 ghost use Rattle.collector.specs.Sound.{Sound};
-ghost use Rattle.fill.specs.Filled.{marks_by, change_in, filled_case};
+ghost use Rattle.fill.specs.Filled.{marks_by, change_in, place_below, filled_case};
 
-use answers::{Filling, Judgement};
+use answers::NotFilled;
 use collector::Case;
-use items::{Place, PlaceNo};
+use items::PlaceNo;
+use marks::Off;
 use rounds::Row;
 use tables::Tables;
 
@@ -20,13 +21,6 @@ use tables::Tables;
 #[derive(Clone, Copy)]
 pub struct Draft {
     pub case: Case,
-}
-
-// What filling in the marks hands back: the case with its marks, or as it was.
-#[derive(Clone, Copy)]
-pub struct Filled {
-    pub case: Case,
-    pub answer: Filling,
 }
 
 // Marks for each place.
@@ -41,11 +35,9 @@ impl Marks {
         requires { (i < 32) × ((p : _) → p < room_of kind.Place → get_or self.at p 0 + get_or row.at p 0 * 2 ^ i < 2 ^ 32) }
         ensures { result.at ≡ tab (room_of kind.Place) 0 (λ p. get_or self.at p 0 + get_or row.at p 0 * 2 ^ i) }
     {
-        let mut marks = [0u32; Case::PLACES];
-        let mut p: usize = 0;
-        while p < Case::PLACES {
-            marks[p] = self.at[p] + ((row.at[p] as u32) << i);
-            p = p + 1;
+        let mut marks = [0; Case::PLACES];
+        for p in 0..Case::PLACES {
+            marks[p] = self.at[p] + (u32::from(row.at[p]) << i);
         }
         Marks { at: marks }
     }
@@ -56,77 +48,52 @@ fn with_marks(mut c: Case, marks: Marks) -> Case
     requires { Sound c }
     ensures { result ≡ case_of (with_marks (items_of c) (marks_by marks)) }
 {
-    let mut places = c.places;
-    let mut p: usize = 0;
-    while p < c.count.places {
-        let place = places[p];
-        let way = place.way;
-        let mark = place.mark;
-        places[p] = Place {
-            state: place.state,
-            way: way,
-            marks: marks.at[p],
-            mark: mark,
-        };
-        p = p + 1;
+    for p in 0..c.count.places {
+        c.places[p].marks = marks.at[p];
     }
-    c.places = places;
     c
 }
 
 // The first of n places at which a sentence of this row changes.
-fn change_in(row: Row, n: usize) -> usize
+fn change_in(row: Row, n: usize) -> Option<usize>
     requires { n ≤ room_of kind.Place }
-    ensures { result ≡ change_in row n }
+    ensures { result ≡ place_below (change_in row n) n }
 {
-    let mut p: usize = 0;
-    while p < n {
+    for p in 0..n {
         if row.at[p] == 2 {
-            return p;
+            return Some(p);
         }
-        p = p + 1;
     }
-    p
+    None
 }
 
 impl Draft {
-    // Sentence by sentence, each by the marks of those below: where one isn't marked as it is, it is put right, or told where its truth changes.
-    pub fn fill(self) -> Filled
-        requires { Sound self.case }
-        ensures value { result ≡ filled_case self.case }
-        ensures sound { Sound result.case }
+    // Sentence by sentence, each by the marks of those below: where one isn't marked as it is, it is put right, or told where its truth changes, and then
+    // the case stays as it was.
+    pub fn fill(&mut self) -> Result<(), NotFilled>
+        requires { Sound self.old.case }
+        ensures answer { result ≡ (filled_case self.old.case).answer }
+        ensures case { self.new.case ≡ (filled_case self.old.case).case }
+        ensures sound { Sound self.new.case }
     {
         let case = self.case;
         let tables = Tables::of(case);
-        let early = judge::before_marks(case, tables);
-        let Judgement::Accepted = early else {
-            return Filled {
-                case: case,
-                answer: Filling::Refused(early),
-            };
-        };
+        judge::before_marks(case, tables)?;
         let n = case.count.places;
         let mut marks = Marks {
             at: [0; Case::PLACES],
         };
         let mut c = with_marks(case, marks);
         let mut off = marks::first_off(c, tables, 0);
-        while off.sentence < case.count.sentences {
-            let i = off.sentence;
-            let p = change_in(off.row, n);
-            if p < n {
-                return Filled {
-                    case: case,
-                    answer: Filling::Changes(PlaceNo(p), i as u8),
-                };
+        while let Some(Off { sentence: i, row }) = off {
+            if let Some(p) = change_in(row, n) {
+                return Err(NotFilled::Changes(PlaceNo(p), i as u8));
             }
-            marks = marks.with_row(i as u32, off.row);
+            marks = marks.with_row(i as u32, row);
             c = with_marks(case, marks);
             off = marks::first_off(c, tables, i + 1);
         }
-        Filled {
-            case: c,
-            answer: Filling::Marked,
-        }
+        self.case = c;
+        Ok(())
     }
 }

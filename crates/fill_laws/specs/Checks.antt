@@ -1,10 +1,8 @@
 -- The checks before filling are the judgement's own, up to 33. Assumes nothing.
-use Rattle.std.specs.Prelude.{◌≡◌, refl, ◌⊎◌, Bool, true, false, eqb}
+use Rattle.std.specs.Prelude.{◌≡◌, refl, ◌⊎◌, Bool, true, false, eqb, Ok}
 use Rattle.std.proofs.Common.{inl, inr}
 use Rattle.counters.specs.Sum.{Valuation}
 use Rattle.items.specs.Lists.{Items}
-use Rattle.answers.specs.declared.Judgement.{Judgement}
-use Rattle.answers.specs.declared.Judgement.TheVariants.{Accepted}
 use Rattle.collector.specs.declared.Case.{Case}
 use Rattle.collector.specs.Cases.{items_of}
 use Rattle.collector.specs.Sound.{Sound}
@@ -13,10 +11,11 @@ use Rattle.meaning.specs.Judged.{state_at, ways_of, Test, tests_of, Mark, marks_
 use Rattle.verdict.specs.Verdict.{Found, nowhere, at, first_not, connects, passes, mark_right, finished, judgement_by, before_marks, verdict}
 use Rattle.verdict_laws.specs.Theorems.{judged}
 use Rattle.fill_laws.specs.Unlooked.{Before34}
+use Rattle.answers.specs.Answers.{Judgement}
 
 -- what the checks say: 24, 31, 32 or 33 as the meaning has it, or none of them applies
 abbrev pub Checked : Items → Valuation → Judgement → Type 0
-Checked x θ a = (Before34 a × Judged x θ a) ⊎ ((a ≡ Accepted) × Guarded x θ)
+Checked x θ a = (Before34 a × Judged x θ a) ⊎ ((a ≡ Ok tt) × Guarded x θ)
 
 by_answer : (x : Items) (θ : Valuation) (f s : Bool) (w : Found Way) (t : Found Test) (k : Found Mark) (r : Bool) →
     Judged x θ (judgement_by x f s w t k r) → Checked x θ (judgement_by x f s w t nowhere true)

@@ -1,5 +1,5 @@
 -- Worked examples of filling. Assumes nothing.
-use Rattle.std.specs.Prelude.{◌≡◌, refl, [], ◌∷◌, ℕ, pos, get_or}
+use Rattle.std.specs.Prelude.{◌≡◌, refl, [], ◌∷◌, ℕ, pos, get_or, None, Some}
 use Rattle.laws.specs.All.{from}
 use Rattle.kinds.specs.declared.Kind.TheVariants as kind
 use Rattle.counters.specs.Sum.{sum}
@@ -9,11 +9,8 @@ use Rattle.items.specs.declared.LoopMark.{LoopMark}
 use Rattle.items.specs.declared.LoopMark.TheVariants as mark
 use Rattle.items.specs.declared.Move.{Move}
 use Rattle.items.specs.declared.Place.{Place}
-use Rattle.items.specs.declared.Ref.{Ref}
-use Rattle.items.specs.declared.Ref.TheVariants as ref
 use Rattle.items.specs.declared.Sentence.{Sentence}
 use Rattle.items.specs.declared.State.{State}
-use Rattle.items.specs.declared.Term.TheVariants as term
 use Rattle.items.specs.Lists.{Items, no_item}
 use Rattle.meaning.specs.Run.{move_at}
 use Rattle.meaning.specs.Drift.{once_around, drift}
@@ -26,13 +23,14 @@ use Rattle.verdict.specs.Forward.{base}
 use Rattle.verdict.specs.Best.{greater, step, chain, whole_sum, power, limit, front}
 use Rattle.verdict.specs.Verdict.{first_not, form_through}
 use Rattle.verdict.specs.Fill.{given, changes, fill_from, filled_of}
+use Rattle.items.specs.Items.{Ref}
 
 -- a state, a move that adds nothing, a sentence, and a place
 abbrev state : ℕ → State
 state s = record { propositions = s }
 
 abbrev move : ℕ → ℕ → Move
-move a b = record { from = a; to = b; updates = (no_item kind.Move).updates; guard1 = ref.None; guard2 = ref.None }
+move a b = record { from = a; to = b; updates = (no_item kind.Move).updates; guard1 = None; guard2 = None }
 
 abbrev sentence : Form → Sentence
 sentence φ = record { form = φ }
@@ -50,8 +48,8 @@ sums n μ =
       guards = [];
       moves = move 0 0 ∷ move 0 1 ∷ move 1 2 ∷ move 2 2 ∷ [];
       sentences =
-          sentence form.True ∷ sentence (form.Proposition 1) ∷ sentence (form.Proposition 0) ∷ sentence (form.Until 0 1 (pos 5) (term.Some (pos 1) 2) term.None) ∷ [];
-      places = place 0 ref.None (μ 0) (mark.Counted 1 n 0) ∷ place 1 (ref.At 1) (μ 1) mark.None ∷ place 2 (ref.At 2) (μ 2) (mark.Endless 1 3) ∷ [];
+          sentence form.True ∷ sentence (form.Proposition 1) ∷ sentence (form.Proposition 0) ∷ sentence (form.Until 0 1 (pos 5) (Some (record { coefficient = (pos 1); sentence = 2 })) None) ∷ [];
+      places = place 0 None (μ 0) (mark.Counted 1 n 0) ∷ place 1 (Some 1) (μ 1) mark.None ∷ place 2 (Some 2) (μ 2) (mark.Endless 1 3) ∷ [];
     }
 
 -- from its start with n rounds, whatever marks were there: with four it is false everywhere; with five, or a million, it changes in the first place

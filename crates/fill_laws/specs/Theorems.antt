@@ -1,14 +1,13 @@
 -- What is proved of filling in the marks: start here. What right marks are, and a sentence that varies, is in the crate meaning (Marking.antt), the computation
 -- in the crate verdict (Fill.antt, and `before_marks` in Verdict.antt). `Sound` is the invariant of every case that records make (crate collector), and θ the
 -- counters at the start. Assumes nothing.
-use Rattle.std.specs.Prelude.{◌≡◌, refl, ◌↔◌, ◌⊎◌, Bool, true, false, ℕ, length}
+use Rattle.std.specs.Prelude.{◌≡◌, refl, ◌↔◌, ◌⊎◌, Bool, true, false, ℕ, length, Err, Ok}
 use Rattle.std.proofs.Common.{sym, ◌∙◌, subst, inl, inr, arith}
 use Rattle.std.proofs.lemmas.Bool.{false≢true}
 use Rattle.laws.specs.All.{All}
 use Rattle.counters.specs.Sum.{Valuation}
 use Rattle.items.specs.Lists.{Items}
-use Rattle.answers.specs.declared.Judgement.{Judgement}
-use Rattle.answers.specs.declared.Judgement.TheVariants.{Accepted, RootUnmarked}
+use Rattle.answers.specs.declared.Rejection.TheVariants.{RootUnmarked}
 use Rattle.rules.specs.Rules.{Closed}
 use Rattle.collector.specs.declared.Case.{Case}
 use Rattle.collector.specs.Cases.{case_of, items_of}
@@ -30,6 +29,7 @@ use Rattle.fill_laws.specs.Held.{low_own, sound_marked, marks_low}
 use Rattle.fill_laws.specs.Given as fills
 use Rattle.fill_laws.specs.Checks as checks
 use Rattle.fill_laws.specs.Checks.{Checked}
+use Rattle.answers.specs.Answers.{Judgement}
 
 -- ---- what never looks at the marks
 
@@ -68,7 +68,7 @@ checked = checks.checked
 
 -- an answer is 0 where the root is true at moment 0, and else 35
 abbrev pub ByRoot : Items → Valuation → Judgement → Type 0
-ByRoot x θ a = (TrueAt x θ (root x) 0 × (a ≡ Accepted)) ⊎ ((TrueAt x θ (root x) 0 → ⊥) × (a ≡ RootUnmarked (root x)))
+ByRoot x θ a = (TrueAt x θ (root x) 0 × (a ≡ Ok tt)) ⊎ ((TrueAt x θ (root x) 0 → ⊥) × (a ≡ Err (RootUnmarked (root x))))
 
 -- so a case is judged to which none of 24 and 31 to 34 applies
 pub right_judged : (c : Case) → Sound c → (θ : Valuation) → Labelled (items_of c) θ → ByRoot (items_of c) θ (verdict (items_of c) θ)
@@ -84,8 +84,8 @@ right_judged c s θ l = by (marked x (root x) 0) refl
         ((all_grid (length x.sentences) (length x.places)).0 l.1 (root x) 0 (omega (arith, f.0)) (in_plan x (facts c s).resolved.laid f.1 0)).same 0 refl
 
     by : (b : Bool) → marked x (root x) 0 ≡ b → ByRoot x θ (verdict x θ)
-    by true e = inl (told.0 e, sym (verdict_one c s θ Accepted (l, e)))
-    by false e = inr (λ t. false≢true (sym e ∙ told.1 t), sym (verdict_one c s θ (RootUnmarked (root x)) (l, e, refl)))
+    by true e = inl (told.0 e, sym (verdict_one c s θ (Ok tt) (l, e)))
+    by false e = inr (λ t. false≢true (sym e ∙ told.1 t), sym (verdict_one c s θ (Err (RootUnmarked (root x))) (l, e, refl)))
 
 -- ---- what filling gives, where the endless loop has closed
 
@@ -154,6 +154,6 @@ module _ (c : Case) (s : Sound c) (o : Closed (items_of c)) (θ : Valuation) whe
         let own : ByRoot y θ (verdict y θ) =
         subst (λ z. ByRoot z θ (verdict z θ)) (items_of_lem y) (right_judged (case_of y) t θ (subst (λ z. Labelled z θ) (sym (items_of_lem y)) labelled)) in (
           subst (λ z. Judged z θ (verdict z θ)) (items_of_lem y) (judged (case_of y) t θ),
-          subst (λ T. (T × (verdict y θ ≡ Accepted)) ⊎ ((T → ⊥) × (verdict y θ ≡ RootUnmarked (root x)))) (same_truth x μ θ (root x) 0)
+          subst (λ T. (T × (verdict y θ ≡ Ok tt)) ⊎ ((T → ⊥) × (verdict y θ ≡ Err (RootUnmarked (root x))))) (same_truth x μ θ (root x) 0)
               (subst (λ z. ByRoot z θ (verdict y θ)) d own),
         )

@@ -1,5 +1,5 @@
 -- What doesn't look at the marks: the run, truth, the refusals before 34, by their meaning and as they are computed, and the tables of judging. Assumes nothing.
-use Rattle.std.specs.Prelude.{◌≡◌, ◌⊎◌, List, ◌++◌, Bool, ◌&&◌, ltb, leb, eqb, pos, ◌+ℤ◌, ◌*ℤ◌, length, replicate}
+use Rattle.std.specs.Prelude.{◌≡◌, ◌⊎◌, List, ◌++◌, Bool, ◌&&◌, ltb, leb, eqb, pos, ◌+ℤ◌, ◌*ℤ◌, length, replicate, Err, Ok}
 use Rattle.std.proofs.Math.Path.{refl, ap, fun_ext}
 use Rattle.std.proofs.Common.{sym, ◌∙◌, subst}
 use Rattle.std.proofs.Math.Bool.{true, false, cond}
@@ -14,8 +14,7 @@ use Rattle.counters.specs.Vectors.{vec_of, no_values}
 use Rattle.items.specs.declared.LoopMark.{LoopMark}
 use Rattle.items.specs.declared.Place.{Place}
 use Rattle.items.specs.Lists.{Items, room_of}
-use Rattle.answers.specs.declared.Judgement.{Judgement}
-use Rattle.answers.specs.declared.Judgement.TheVariants.{Accepted, Unfinished, WrongStart, Unconnected, GuardFails, WrongMark, RootUnmarked}
+use Rattle.answers.specs.declared.Rejection.TheVariants.{Unfinished, WrongStart, Unconnected, GuardFails, WrongMark, RootUnmarked}
 use Rattle.rules.specs.Rules.{mark_at, Closed}
 use Rattle.standing.specs.Standing.{is_closed}
 use Rattle.meaning.specs.Run.{Moment, Spot, Step, Way, here, stretch, goes_again, next, spot, way_taken, move_no, update, counters_at, guard_at, Meets}
@@ -33,16 +32,17 @@ use Rattle.verdict.specs.Verdict.{Found, nowhere, at, first_not, connects, test_
 use Rattle.places.specs.Replaced.{counts_same, loops_same}
 use Rattle.tables.specs.Tables.{tables_of}
 use Rattle.fill_laws.specs.Marks.{marked_plan, mark_same}
+use Rattle.answers.specs.Answers.{Judgement}
 
 -- a refusal that comes before those of marks: 24, 31, 32 or 33
 abbrev pub Before34 : Judgement → Type 0
-Before34 (Unfinished n) = Unit {0}
-Before34 WrongStart = Unit {0}
-Before34 (Unconnected p t) = Unit {0}
-Before34 (GuardFails p g) = Unit {0}
-Before34 (WrongMark p i) = ⊥
-Before34 (RootUnmarked r) = ⊥
-Before34 Accepted = ⊥
+Before34 (Err (Unfinished n)) = Unit {0}
+Before34 (Err WrongStart) = Unit {0}
+Before34 (Err (Unconnected p t)) = Unit {0}
+Before34 (Err (GuardFails p g)) = Unit {0}
+Before34 (Err (WrongMark p i)) = ⊥
+Before34 (Err (RootUnmarked r)) = ⊥
+Before34 (Ok tt) = ⊥
 
 first_map : {A : Type 0} {P Q B C : A → Type 0} {l : List A} {a : A} → ((a : A) → P a → Q a) → ((a : A) → B a → C a) → First P B l a → First Q C l a
 first_map f g (this b) = this (g _ b)
@@ -140,9 +140,9 @@ module _ (x : Items) (μ : ℕ → ℕ) where
   still_guarded θ h = (still_connected h.0, subst (All (Passes y θ)) (sym (same_tests x plan)) (all_map (still_passes θ) h.1))
 
   pub still_refused : (θ : Valuation) (a : Judgement) → Before34 a → Judged x θ a → Judged (with_marks x μ) θ a
-  still_refused θ (Unfinished n) b h = (λ f. h.0 (f.0, same_closed y (plan_back plan) f.1), h.1 ∙ sym (ap counts_total (counts_same x plan)))
-  still_refused θ WrongStart b h = ((h.0.0, still_closed h.0.1), λ e. h.1 (sym (plan.states 0) ∙ e))
-  still_refused θ (Unconnected p t) b h =
+  still_refused θ (Err (Unfinished n)) b h = (λ f. h.0 (f.0, same_closed y (plan_back plan) f.1), h.1 ∙ sym (ap counts_total (counts_same x plan)))
+  still_refused θ (Err WrongStart) b h = ((h.0.0, still_closed h.0.1), λ e. h.1 (sym (plan.states 0) ∙ e))
+  still_refused θ (Err (Unconnected p t)) b h =
       let (w, f, e, n) = h.1 in (
         still_started h.0,
         (
@@ -153,14 +153,14 @@ module _ (x : Items) (μ : ℕ → ℕ) where
           same_number plan w ∙ n,
         ),
       )
-  still_refused θ (GuardFails p g) b h =
+  still_refused θ (Err (GuardFails p g)) b h =
       let (t, f, e, n) = h.1 in (
         still_connected h.0,
         (t, subst (λ ts. First (Passes y θ) (Fails y θ) ts t) (sym (same_tests x plan)) (first_map (still_passes θ) (still_fails θ) f), e, n),
       )
-  still_refused θ (WrongMark p i) b h = absurd b
-  still_refused θ (RootUnmarked r) b h = absurd b
-  still_refused θ Accepted b h = absurd b
+  still_refused θ (Err (WrongMark p i)) b h = absurd b
+  still_refused θ (Err (RootUnmarked r)) b h = absurd b
+  still_refused θ (Ok tt) b h = absurd b
 
   -- ---- the tables
 
@@ -210,9 +210,9 @@ module _ (x : Items) (μ : ℕ → ℕ) where
 
   -- by what the checks find
   same_by : (f s : Bool) (w : Found Way) (t : Found Test) → judgement_by y f s w t nowhere true ≡ judgement_by x f s w t nowhere true
-  same_by false s w t = ap (λ n. Unfinished (counts_total n)) (counts_same x plan)
+  same_by false s w t = ap (λ n. Err (Unfinished (counts_total n))) (counts_same x plan)
   same_by true false w t = refl
-  same_by true true (at w) t = ap (λ r. Unconnected (record { 0 = w.place }) (ref_number r)) (same_number plan w)
+  same_by true true (at w) t = ap (λ r. Err (Unconnected (record { 0 = w.place }) (ref_number r))) (same_number plan w)
   same_by true true nowhere (at t) = refl
   same_by true true nowhere nowhere = refl
 

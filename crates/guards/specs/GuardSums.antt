@@ -1,5 +1,5 @@
 -- A guard over rounds, by the counters that the code reads: its sums fit, and are those of the definition. Assumes nothing.
-use Rattle.std.specs.Prelude.{◌≡◌, List, Bool, ℕ, ◌+◌, ◌*◌, ◌≤◌, ◌<◌, ◌^◌, ℤ, pos, ◌+ℤ◌}
+use Rattle.std.specs.Prelude.{◌≡◌, List, Bool, ℕ, ◌+◌, ◌*◌, ◌≤◌, ◌<◌, ◌^◌, ℤ, pos, ◌+ℤ◌, Option}
 use Rattle.std.proofs.Math.Path.{refl}
 use Rattle.std.proofs.Common.{ap₂, mul-le-mul, arith}
 use Rattle.std.proofs.Math.Bool.{cond}
@@ -12,6 +12,7 @@ use Rattle.counters.specs.Bounds.{sizes, sizes_le}
 use Rattle.items.specs.declared.LoopMark.{LoopMark}
 use Rattle.items.specs.declared.LoopMark.TheVariants as mark
 use Rattle.items.specs.declared.Guard.{Guard}
+use Rattle.items.specs.declared.PlaceNo.{PlaceNo}
 use Rattle.items.specs.Lists.{Items, room_of}
 use Rattle.rules.specs.Rules.{mark_at}
 use Rattle.meaning.specs.Run.{guard_at}
@@ -25,6 +26,10 @@ use Rattle.verdict.specs.Verdict.{first_sum, round_sum}
 use Rattle.verdict_laws.specs.Steps.{first_le}
 use Rattle.rounds.specs.Last.{last_of, most_rounds}
 use Rattle.tables.specs.Sizes.{repeats_size, drift_size, base_size}
+
+-- what a search found: the place, and the number of the move, the guard or the sentence
+abbrev pub Search : Type 0
+Search = Option (PlaceNo × ℕ)
 
 -- a guard on these counters over these rounds: its sums fit
 abbrev pub SumsFit : Guard → Counters → Counters → Rounds → Type 0

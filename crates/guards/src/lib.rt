@@ -1,4 +1,4 @@
-// A guard over rounds, for those on ways and those of sentences alike, the row of a sentence of a guard, and what a search found.
+// A guard over rounds, for those on ways and those of sentences alike, and the row of a sentence of a guard.
 #![tactic(auto)]
 
 ghost use Rattle.std.specs.Prelude.{◌≡◌, cond, ◌+◌, ◌<◌, ◌^◌, pos, ◌+ℤ◌};
@@ -15,28 +15,18 @@ ghost use Rattle.guards.specs.GuardSums.{SumsFit, through_by};
 
 use collector::Case;
 use counters::Counters;
-use items::{Guard, PlaceNo};
+use items::Guard;
 use kinds::PerCounter;
 use rounds::Row;
 use tables::Tables;
 use verdict::{Rounds, Throughout};
-
-// What a search found: the place, and the number of the move, the guard or the sentence.
-#[derive(Clone, Copy)]
-pub enum Search {
-    Nowhere,
-    At(PlaceNo, u8),
-}
 
 // The sum of a guard in the first of the rounds: a at first, and one round later d more.
 fn first_sum(a: i64, d: i64, later: bool) -> i64
     requires { size a + size d < 2 ^ 63 }
     ensures { result ≡ a +ℤ cond later d (pos 0) }
 {
-    if later {
-        return a + d;
-    }
-    a
+    if later { a + d } else { a }
 }
 
 // A guard over rounds, where its counters are those of the base in the first round of the place, and each round adds the drift. The rounds are all of the
@@ -54,7 +44,7 @@ pub fn guard_through(
     let a = counters::dot(g.coefficients, base);
     let d = counters::dot(g.coefficients, drift);
     let first = first_sum(a, d, later);
-    rounds::through(first, d, g.bound as i64, rounds)
+    rounds::through(first, d, i64::from(g.bound), rounds)
 }
 
 // A guard, and one that is always true where there is none.
@@ -63,43 +53,37 @@ fn guard_at(c: Case, g: u8) -> Guard
     ensures { result ≡ guard_at (items_of c).guards g }
 {
     let guards = c.guards;
-    let i = g as usize;
+    let i = usize::from(g);
     if i < Case::GUARDS {
         return guards[i];
     }
     Guard {
         coefficients: PerCounter {
-            at: [0i16; PerCounter::COUNT],
+            at: [0; PerCounter::COUNT],
         },
         bound: 0,
     }
 }
 
-// The row of sentence i, guard g.
+// The row of sentence i, guard g. (A loop of its own, as each form has.)
 pub fn guard_row(c: Case, t: Tables, i: u8, g: u8) -> Row
     requires { (Sound c) × (t ≡ tables_of (items_of c)) × (Closed (items_of c)) }
     ensures { result ≡ row_of (items_of c) i (guard_through (items_of c) (start_of (items_of c)) (guard_at (items_of c).guards g)) }
 {
-    let places = c.places;
     let guard = guard_at(c, g);
-    let firsts = t.firsts;
+    // arrays of their own: where a loop reads c itself, all of it is copied
+    let places = c.places;
     let drifts = c.drifts;
+    let firsts = t.firsts;
     let bases = t.bases;
-    let mut row = [0u8; Case::PLACES];
+    let mut row = [0; Case::PLACES];
     let mut off = false;
-    let mut p: usize = 0;
-    while p < c.count.places {
-        let q = firsts.at[p] as usize;
-        let first = places[q];
-        let mark = first.mark;
-        let base = bases.at[p];
-        let drift = drifts[q];
-        let place = places[p];
-        let t = guard_through(guard, base, drift, false, rounds::rounds_of(mark));
-        let code = rounds::code(t);
+    for p in 0..c.count.places {
+        let q = usize::from(firsts.at[p]);
+        let rounds = rounds::rounds_of(places[q].mark);
+        let code = rounds::code(guard_through(guard, bases.at[p], drifts[q], false, rounds));
         row[p] = code;
-        off = rounds::off_by(off, code, rounds::bit(place.marks, i));
-        p = p + 1;
+        off = rounds::off_by(off, code, rounds::bit(places[p].marks, i));
     }
-    Row { at: row, off: off }
+    Row { at: row, off }
 }

@@ -12,7 +12,7 @@ use std::fmt::InlineText;
 use std::io;
 use std::io::{ErrorKind, Read};
 
-// What was read: how many bytes, and why a read failed, if one did.
+// What was read: how many bytes, and why a read failed, if one did. (Both: the clause `read` tells of the bytes before a read that failed.)
 #[derive(Clone, Copy)]
 pub struct Input {
     pub count: usize,

@@ -1,5 +1,5 @@
 -- The items of a case: what a record's fields become, and the fields of an item again.
-use Rattle.std.specs.Prelude.{List, [], ◌∷◌, ◌++◌, map, cond, ℕ, ◌+◌, ◌-◌, ◌%◌, ℤ, pos, negsuc, length, replicate, get_or}
+use Rattle.std.specs.Prelude.{List, [], ◌∷◌, ◌++◌, map, cond, ℕ, ◌+◌, ◌-◌, ◌%◌, ℤ, pos, negsuc, length, replicate, get_or, None, Option, Some}
 use Rattle.std.specs.Int.Signed.{lt_z}
 use Rattle.laws.specs.Tab.{tab}
 use Rattle.record.specs.declared.Content.{Content}
@@ -11,10 +11,7 @@ use Rattle.kinds.specs.declared.Kind.TheVariants as kind
 use Rattle.kinds.specs.declared.PerCounter.{PerCounter}
 use Rattle.kinds.specs.Kinds.{counters}
 use Rattle.kinds.specs.Contents.{natural}
-use Rattle.items.specs.declared.Ref.{Ref}
-use Rattle.items.specs.declared.Ref.TheVariants as ref
 use Rattle.items.specs.declared.Term.{Term}
-use Rattle.items.specs.declared.Term.TheVariants as term
 use Rattle.items.specs.declared.Form.{Form}
 use Rattle.items.specs.declared.Form.TheVariants as form
 use Rattle.items.specs.declared.LoopMark.{LoopMark}
@@ -25,6 +22,10 @@ use Rattle.items.specs.declared.Guard.{Guard}
 use Rattle.items.specs.declared.Move.{Move}
 use Rattle.items.specs.declared.Sentence.{Sentence}
 use Rattle.items.specs.declared.Place.{Place}
+
+-- a reference to an item, or none
+abbrev pub Ref : Type 0
+Ref = Option ℕ
 
 -- the items of a kind
 abbrev pub Item : Kind → Type 0
@@ -61,15 +62,15 @@ per_counter r k = record { at = tab counters 0 (λ (j : ℕ). short_of (integer_
 
 -- a reference, none where the field is blank
 abbrev pub ref_of : Content → Ref
-ref_of Blank = ref.None
-ref_of (Number z) = ref.At (byte_of (Number z))
-ref_of (Bad i) = ref.None
+ref_of Blank = None
+ref_of (Number z) = Some (byte_of (Number z))
+ref_of (Bad i) = None
 
 -- a term, of its coefficient and its sentence
-abbrev pub term_of : Content → Content → Term
-term_of Blank s = term.None
-term_of (Number z) s = term.Some (short_of z) (byte_of s)
-term_of (Bad i) s = term.None
+abbrev pub term_of : Content → Content → Option Term
+term_of Blank s = None
+term_of (Number z) s = Some (record { coefficient = (short_of z); sentence = (byte_of s) })
+term_of (Bad i) s = None
 
 -- a state: its propositions
 unfoldable pub state_of : List Field → State
@@ -152,13 +153,13 @@ blank = record { content = Blank }
 
 -- the field of a reference
 abbrev pub reference : Ref → Field
-reference ref.None = blank
-reference (ref.At n) = number n
+reference None = blank
+reference (Some n) = number n
 
 -- the two fields of a term
-abbrev pub term_fields : Term → List Field
-term_fields term.None = blank ∷ blank ∷ []
-term_fields (term.Some c s) = integer c ∷ number s ∷ []
+abbrev pub term_fields : Option Term → List Field
+term_fields None = blank ∷ blank ∷ []
+term_fields (Some c) = integer c.coefficient ∷ number c.sentence ∷ []
 
 -- the fields of a sentence, its form first
 abbrev pub form_fields : Form → List Field

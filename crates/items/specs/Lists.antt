@@ -1,5 +1,5 @@
 -- The abstract case: the items of each kind as lists, and how many there may be.
-use Rattle.std.specs.Prelude.{List, ℕ, pos, length, replicate}
+use Rattle.std.specs.Prelude.{List, ℕ, pos, length, replicate, None}
 use Rattle.kinds.specs.declared.Counts.{Counts}
 use Rattle.kinds.specs.declared.Kind.{Kind}
 use Rattle.kinds.specs.declared.Kind.TheVariants as kind
@@ -12,7 +12,6 @@ use Rattle.items.specs.declared.State.{State}
 use Rattle.items.specs.declared.Weights.{Weights}
 use Rattle.items.specs.declared.Form.TheVariants as form
 use Rattle.items.specs.declared.LoopMark.TheVariants as mark
-use Rattle.items.specs.declared.Ref.TheVariants as ref
 use Rattle.items.specs.Items.{Item}
 
 -- how many items of a kind a case has room for
@@ -30,9 +29,9 @@ no_item kind.State = record { propositions = 0 }
 no_item kind.Weights = record { at = replicate counters (pos 0) }
 no_item kind.Guard = record { coefficients = record { at = replicate counters (pos 0) }; bound = pos 0 }
 no_item kind.Move =
-    record { from = 0; to = 0; updates = record { at = replicate counters (pos 0) }; guard1 = ref.None; guard2 = ref.None }
+    record { from = 0; to = 0; updates = record { at = replicate counters (pos 0) }; guard1 = None; guard2 = None }
 no_item kind.Sentence = record { form = form.True }
-no_item kind.Place = record { state = 0; way = ref.None; marks = 0; mark = mark.None }
+no_item kind.Place = record { state = 0; way = None; marks = 0; mark = mark.None }
 
 -- the items of each kind, in order
 pub record Items : Type 0 where

@@ -9,13 +9,6 @@ ghost use Rattle.items.specs.Items.{byte_of, integer_of, short_of, per_counter, 
 use kinds::PerCounter;
 use record::{Content, Record};
 
-// A reference to an item, or none.
-#[derive(Clone, Copy)]
-pub enum Ref {
-    None,
-    At(u8),
-}
-
 // A state: the propositions that hold in it, as a bit set.
 #[derive(Clone, Copy)]
 pub struct State {
@@ -41,15 +34,15 @@ pub struct Move {
     pub from: u8,
     pub to: u8,
     pub updates: PerCounter,
-    pub guard1: Ref,
-    pub guard2: Ref,
+    pub guard1: Option<u8>,
+    pub guard2: Option<u8>,
 }
 
 // A term of an until: a coefficient for each moment at which the sentence is true.
 #[derive(Clone, Copy)]
-pub enum Term {
-    None,
-    Some { coefficient: i16, sentence: u8 },
+pub struct Term {
+    pub coefficient: i16,
+    pub sentence: u8,
 }
 
 // The forms of sentences.
@@ -65,18 +58,19 @@ pub enum Form {
         held: u8,
         goal: u8,
         bound: i32,
-        term1: Term,
-        term2: Term,
+        term1: Option<Term>,
+        term2: Option<Term>,
     },
 }
 
-// A sentence (a CLTL formula). (An array of enums can be no field of a struct, so a sentence is a struct that holds one.)
+// A sentence (a CLTL formula). (A struct around the enum, from when an array of enums could be
+// no field of a struct.)
 #[derive(Clone, Copy)]
 pub struct Sentence {
     pub form: Form,
 }
 
-// Whether a place begins a loop, and which.
+// Whether a place begins a loop, and which. (Document 01 names this form.)
 #[derive(Clone, Copy)]
 pub enum LoopMark {
     None,
@@ -88,7 +82,7 @@ pub enum LoopMark {
 #[derive(Clone, Copy)]
 pub struct Place {
     pub state: u8,
-    pub way: Ref,
+    pub way: Option<u8>,
     pub marks: u32,
     pub mark: LoopMark,
 }
@@ -127,9 +121,8 @@ fn integer_of(content: Content) -> i32
     ensures { result ≡ integer_of content }
 {
     match content {
-        Content::Blank => 0,
         Content::Number(x) => x,
-        Content::Bad(_) => 0,
+        _ => 0,
     }
 }
 
@@ -137,55 +130,42 @@ fn integer_of(content: Content) -> i32
 fn short_of(content: Content) -> i16
     ensures { result ≡ short_of (integer_of content) }
 {
-    let x = integer_of(content);
-    if x < -32768 {
-        return 0;
-    }
-    if 32767 < x {
-        return 0;
-    }
-    x as i16
+    i16::try_from(integer_of(content)).unwrap_or(0)
 }
 
-// A number for each counter, from field `from` on.
+// A number for each counter, from field `from` on. (By `array::from_fn` its proof didn't close; nor that of `weights_of`.)
+#[tactic(auto, unfolding(crate::specs::Items::per_counter))]
 fn per_counter(row: Record, from: usize) -> PerCounter
     requires { (0 < from) × (from + counters ≤ fields + 1) }
     ensures { result ≡ per_counter row.fields from }
 {
-    let fields = row.fields;
-    let mut each = [0i16; PerCounter::COUNT];
-    let mut j: usize = 0;
-    while j < PerCounter::COUNT {
-        let field = fields[from + j - 1];
-        let content = field.content;
-        each[j] = short_of(content);
-        j = j + 1;
+    let mut at = [0; PerCounter::COUNT];
+    for j in 0..PerCounter::COUNT {
+        at[j] = short_of(content_at(row, from + j));
     }
-    PerCounter { at: each }
+    PerCounter { at }
 }
 
 // A reference, none where the field is blank.
-fn ref_of(content: Content) -> Ref
+fn ref_of(content: Content) -> Option<u8>
     ensures { result ≡ ref_of content }
 {
     match content {
-        Content::Blank => Ref::None,
-        Content::Number(_) => Ref::At(byte_of(content)),
-        Content::Bad(_) => Ref::None,
+        Content::Number(_) => Some(byte_of(content)),
+        _ => None,
     }
 }
 
 // A term, of its coefficient and its sentence.
-fn term_of(coefficient: Content, sentence: Content) -> Term
+fn term_of(coefficient: Content, sentence: Content) -> Option<Term>
     ensures { result ≡ term_of coefficient sentence }
 {
     match coefficient {
-        Content::Blank => Term::None,
-        Content::Number(_) => Term::Some {
+        Content::Number(_) => Some(Term {
             coefficient: short_of(coefficient),
             sentence: byte_of(sentence),
-        },
-        Content::Bad(_) => Term::None,
+        }),
+        _ => None,
     }
 }
 
@@ -194,9 +174,7 @@ pub fn content_at(row: Record, k: usize) -> Content
     requires { (0 < k) × (k ≤ fields) }
     ensures { result ≡ at row.fields k }
 {
-    let fields = row.fields;
-    let field = fields[k - 1];
-    field.content
+    row.fields[k - 1].content
 }
 
 // A state: its propositions.
@@ -210,16 +188,15 @@ pub fn state_of(row: Record) -> State
 }
 
 // Starting weights: one for each counter.
+#[tactic(auto, unfolding(crate::specs::Items::weights_of))]
 pub fn weights_of(row: Record) -> Weights
     ensures { result ≡ weights_of row.fields }
 {
-    let mut each = [0i64; PerCounter::COUNT];
-    let mut j: usize = 0;
-    while j < PerCounter::COUNT {
-        each[j] = integer_of(content_at(row, 1 + j)) as i64;
-        j = j + 1;
+    let mut at = [0; PerCounter::COUNT];
+    for j in 0..PerCounter::COUNT {
+        at[j] = i64::from(integer_of(content_at(row, 1 + j)));
     }
-    Weights { at: each }
+    Weights { at }
 }
 
 // A guard: a coefficient for each counter, then the bound.
@@ -227,9 +204,8 @@ pub fn weights_of(row: Record) -> Weights
 pub fn guard_of(row: Record) -> Guard
     ensures { result ≡ guard_of row.fields }
 {
-    let coefficients = per_counter(row, 1);
     Guard {
-        coefficients: coefficients,
+        coefficients: per_counter(row, 1),
         bound: integer_of(content_at(row, 1 + PerCounter::COUNT)),
     }
 }
@@ -239,15 +215,12 @@ pub fn guard_of(row: Record) -> Guard
 pub fn move_of(row: Record) -> Move
     ensures { result ≡ move_of row.fields }
 {
-    let updates = per_counter(row, 3);
-    let guard1 = ref_of(content_at(row, 3 + PerCounter::COUNT));
-    let guard2 = ref_of(content_at(row, 4 + PerCounter::COUNT));
     Move {
         from: byte_of(content_at(row, 1)),
         to: byte_of(content_at(row, 2)),
-        updates: updates,
-        guard1: guard1,
-        guard2: guard2,
+        updates: per_counter(row, 3),
+        guard1: ref_of(content_at(row, 3 + PerCounter::COUNT)),
+        guard2: ref_of(content_at(row, 4 + PerCounter::COUNT)),
     }
 }
 
@@ -256,18 +229,16 @@ pub fn move_of(row: Record) -> Move
 fn until_of(row: Record) -> Form
     ensures { result ≡ form_of 6 row.fields }
 {
-    let term1 = term_of(content_at(row, 5), content_at(row, 6));
-    let term2 = term_of(content_at(row, 7), content_at(row, 8));
     Form::Until {
         held: byte_of(content_at(row, 2)),
         goal: byte_of(content_at(row, 3)),
         bound: integer_of(content_at(row, 4)),
-        term1: term1,
-        term2: term2,
+        term1: term_of(content_at(row, 5), content_at(row, 6)),
+        term2: term_of(content_at(row, 7), content_at(row, 8)),
     }
 }
 
-// The sentence of a form.
+// The sentence of a form. (A number: document 01 numbers the forms, and the clause speaks of every number that a field may have.)
 #[tactic(auto, unfolding(crate::specs::Items::form_of))]
 fn form_of(form: u32, row: Record) -> Form
     ensures { result ≡ form_of form row.fields }
@@ -289,8 +260,9 @@ fn form_of(form: u32, row: Record) -> Form
 pub fn sentence_of(row: Record) -> Sentence
     ensures { result ≡ sentence_of row.fields }
 {
-    let form = form_of(kinds::natural_of(content_at(row, 1)), row);
-    Sentence { form: form }
+    Sentence {
+        form: form_of(kinds::natural_of(content_at(row, 1)), row),
+    }
 }
 
 // A loop mark, of its length, its rounds and its back move.
@@ -299,20 +271,15 @@ fn mark_of(length: Content, rounds: Content, back: Content) -> LoopMark
     ensures { result ≡ mark_of length rounds back }
 {
     let l = byte_of(length);
-    let n = kinds::natural_of(rounds);
     let b = byte_of(back);
-    match length {
-        Content::Blank => LoopMark::None,
-        Content::Number(_) => match rounds {
-            Content::Blank => LoopMark::Endless { length: l, back: b },
-            Content::Number(_) => LoopMark::Counted {
-                length: l,
-                rounds: n,
-                back: b,
-            },
-            Content::Bad(_) => LoopMark::None,
+    match (length, rounds) {
+        (Content::Number(_), Content::Blank) => LoopMark::Endless { length: l, back: b },
+        (Content::Number(_), Content::Number(_)) => LoopMark::Counted {
+            length: l,
+            rounds: kinds::natural_of(rounds),
+            back: b,
         },
-        Content::Bad(_) => LoopMark::None,
+        _ => LoopMark::None,
     }
 }
 
@@ -321,12 +288,10 @@ fn mark_of(length: Content, rounds: Content, back: Content) -> LoopMark
 pub fn place_of(row: Record) -> Place
     ensures { result ≡ place_of row.fields }
 {
-    let way = ref_of(content_at(row, 2));
-    let mark = mark_of(content_at(row, 4), content_at(row, 5), content_at(row, 6));
     Place {
         state: byte_of(content_at(row, 1)),
-        way: way,
+        way: ref_of(content_at(row, 2)),
         marks: kinds::natural_of(content_at(row, 3)),
-        mark: mark,
+        mark: mark_of(content_at(row, 4), content_at(row, 5), content_at(row, 6)),
     }
 }

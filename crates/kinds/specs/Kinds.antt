@@ -1,10 +1,8 @@
 -- The kinds of records: their letters, the order in which they come, and how many items of each there are. The number of counters.
-use Rattle.std.specs.Prelude.{List, [], ◌∷◌, Bool, cond, ℕ, eqb}
+use Rattle.std.specs.Prelude.{List, [], ◌∷◌, Bool, cond, ℕ, eqb, Option, Some, None}
 use Rattle.laws.specs.All.{sum_over}
 use Rattle.kinds.specs.declared.Kind.{Kind}
 use Rattle.kinds.specs.declared.Kind.TheVariants.{State, Weights, Guard, Move, Sentence, Place}
-use Rattle.kinds.specs.declared.Letter.{Letter}
-use Rattle.kinds.specs.declared.Letter.TheVariants.{Names, Unknown}
 use Rattle.kinds.specs.declared.Counts.{Counts}
 
 -- the letters S, W, G, T, F and P
@@ -33,10 +31,14 @@ all_kinds = State ∷ Weights ∷ Guard ∷ Move ∷ Sentence ∷ Place ∷ []
 abbrev pub same : Kind → Kind → Bool
 same j k = eqb (letter_of j) (letter_of k)
 
+-- what a letter says: the kind that it names, or nothing
+abbrev pub Letter : Type 0
+Letter = Option Kind
+
 -- the kind that a letter names, of those listed
 unfoldable pub kind_in : List Kind → ℕ → Letter
-kind_in [] b = Unknown
-kind_in (k ∷ ks) b = cond (eqb b (letter_of k)) (Names k) (kind_in ks b)
+kind_in [] b = None
+kind_in (k ∷ ks) b = cond (eqb b (letter_of k)) (Some k) (kind_in ks b)
 
 -- the kind that a letter names
 abbrev pub kind_of : ℕ → Letter

@@ -1,6 +1,6 @@
 -- Laws of the kinds: each has a letter of its own and stands in the order once, so that what is tested of the listed ones is true of every kind.
 -- Only `each_kind` goes through the kinds by name. Assumes nothing.
-use Rattle.std.specs.Prelude.{◌≡◌, refl, List, [], ◌∷◌, ◌++◌, Bool, true, false, not, cond, eqb, ltb, length, take, drop}
+use Rattle.std.specs.Prelude.{◌≡◌, refl, List, [], ◌∷◌, ◌++◌, Bool, true, false, not, cond, eqb, ltb, length, take, drop, Some}
 use Rattle.std.proofs.Common.{◌∙◌, sym, subst}
 use Rattle.std.proofs.Math.Path.{ap}
 use mathlib.Core.List.Memᴰ
@@ -15,7 +15,6 @@ use Rattle.laws.specs.Members.{Has, all_map, all_of, all_of_lem, holds_all, sum_
 use Rattle.laws.specs.Tests.{Tells, cond_by}
 use Rattle.kinds.specs.declared.Kind.{Kind}
 use Rattle.kinds.specs.declared.Kind.TheVariants.{State, Weights, Guard, Move, Sentence, Place}
-use Rattle.kinds.specs.declared.Letter.TheVariants.{Names}
 use Rattle.kinds.specs.declared.Counts.{Counts}
 use Rattle.kinds.specs.Kinds.{letter_of, all_kinds, same, rank_of, kind_in, kind_of, count_of, counts_by, over_kinds}
 use Rattle.kinds.specs.Last.{kind_at, last_below, last_rank}
@@ -32,17 +31,17 @@ each_kind P s w g m f p Place = p
 -- ---- letters
 
 -- a letter names its kind
-named : (k : Kind) → kind_of (letter_of k) ≡ Names k
+named : (k : Kind) → kind_of (letter_of k) ≡ Some k
 unfolding kind_in
-named = each_kind (λ k. kind_of (letter_of k) ≡ Names k) refl refl refl refl refl refl
+named = each_kind (λ k. kind_of (letter_of k) ≡ Some k) refl refl refl refl refl refl
 
 module _ (b : ℕ) where
-  pub kind_named : (k : Kind) → b ≡ letter_of k → kind_of b ≡ Names k
+  pub kind_named : (k : Kind) → b ≡ letter_of k → kind_of b ≡ Some k
   kind_named k e = ap kind_of e ∙ named k
 
   pub one_kind : (j k : Kind) → b ≡ letter_of j → b ≡ letter_of k → j ≡ k
   one_kind j k p q =
-      let e : Names j ≡ Names k = sym (kind_named j p) ∙ kind_named k q in
+      let e : Some j ≡ Some k = sym (kind_named j p) ∙ kind_named k q in
       cc
 
 pub same_is : (j k : Kind) → same j k ≡ true → j ≡ k
@@ -57,11 +56,11 @@ by_kind P k p f j = cond_by (λ (z : ℕ). P j) (same k j) {x = 0} {y = 0} (λ e
 
 -- ---- every kind is listed
 
-kind_has : (b : ℕ) (k : Kind) (ks : List Kind) → kind_in ks b ≡ Names k → Has ks k
+kind_has : (b : ℕ) (k : Kind) (ks : List Kind) → kind_in ks b ≡ Some k → Has ks k
 unfolding kind_in
 kind_has b k [] = λ e. let z : ◌≡◌ {A = ℕ} 0 1 = cc in absurd (omega arith)
 kind_has b k (j ∷ js) =
-    cond_by (λ l. l ≡ Names k → Has (j ∷ js) k) (eqb b (letter_of j)) {x = Names j} {y = kind_in js b}
+    cond_by (λ l. l ≡ Some k → Has (j ∷ js) k) (eqb b (letter_of j)) {x = Some j} {y = kind_in js b}
     (λ t e. let q : k ≡ j = cc in Memᴰ.head q) (λ t e. Memᴰ.tail (kind_has b k js e))
 
 -- a test that holds of each of the list holds of every kind

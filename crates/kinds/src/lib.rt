@@ -10,7 +10,7 @@ use record::Content;
 
 // The kinds of records: states, starting weights (the initial valuation), guards, moves (transitions), sentences (CLTL formulas) and places (states of
 // the path schema).
-#[derive(Clone, Copy)]
+#[derive(Clone, Copy, PartialEq, Eq)]
 pub enum Kind {
     State,
     Weights,
@@ -20,14 +20,7 @@ pub enum Kind {
     Place,
 }
 
-// What a kind letter says.
-#[derive(Clone, Copy)]
-pub enum Letter {
-    Names(Kind),
-    Unknown,
-}
-
-// How many items of each kind a case holds.
+// How many items of each kind a case holds. (Beside its arrays: fixed memory, no heap.)
 #[derive(Clone, Copy)]
 pub struct Counts {
     pub states: usize,
@@ -50,17 +43,18 @@ impl PerCounter {
 }
 
 // The kind that a letter names.
-pub fn kind_of(letter: u8) -> Letter
+#[tactic(auto, unfolding(crate::specs::Kinds::kind_in))]
+pub fn kind_of(letter: u8) -> Option<Kind>
     ensures { result ≡ kind_of letter }
 {
     match letter {
-        b'S' => Letter::Names(Kind::State),
-        b'W' => Letter::Names(Kind::Weights),
-        b'G' => Letter::Names(Kind::Guard),
-        b'T' => Letter::Names(Kind::Move),
-        b'F' => Letter::Names(Kind::Sentence),
-        b'P' => Letter::Names(Kind::Place),
-        _ => Letter::Unknown,
+        b'S' => Some(Kind::State),
+        b'W' => Some(Kind::Weights),
+        b'G' => Some(Kind::Guard),
+        b'T' => Some(Kind::Move),
+        b'F' => Some(Kind::Sentence),
+        b'P' => Some(Kind::Place),
+        _ => None,
     }
 }
 
@@ -68,7 +62,7 @@ impl Kind {
     // The number of kinds.
     pub const COUNT: usize = 6;
 
-    // The kind of a rank; the first where there is no such rank.
+    // The kind of a rank; the first where there is no such rank. (A number, as `rank`: the clause is `kind_at`.)
     pub fn at(rank: usize) -> Kind
         ensures { result ≡ kind_at rank }
     {
@@ -96,7 +90,7 @@ impl Kind {
         }
     }
 
-    // The place of this kind in the order in which kinds come.
+    // The place of this kind in the order in which kinds come. (A number: `last_rank` counts 0 for a case that holds nothing, and the clause is `rank_of`.)
     pub fn rank(self) -> usize
         ensures { result ≡ rank_of self }
     {
@@ -114,7 +108,7 @@ impl Kind {
     pub fn is(self, other: Kind) -> bool
         ensures { result ≡ same self other }
     {
-        self.rank() == other.rank()
+        self == other
     }
 }
 
@@ -148,14 +142,16 @@ impl Counts {
     }
 
     // How many items are held.
+    #[tactic(auto, unfolding(laws::specs::All::sum_over))]
     pub fn total(self) -> usize
         requires { counts_total self < 2 ^ 64 }
         ensures { result ≡ counts_total self }
     {
-        self.states + (self.weights + (self.guards + (self.moves + (self.sentences + self.places))))
+        self.states + self.weights + self.guards + self.moves + self.sentences + self.places
     }
 
     // The rank of the last kind of which an item is held.
+    #[tactic(auto, unfolding(crate::specs::Last::last_below))]
     pub fn last_rank(self) -> usize
         ensures { result ≡ last_rank self }
     {
@@ -175,14 +171,13 @@ fn rank_if(held: usize, kind: Kind, other: usize) -> usize
     if 0 < held { kind.rank() } else { other }
 }
 
-// 1 for a field that is filled, 0 for any other.
+// 1 for a field that is filled, 0 for any other. (A number, as `Filled` of `table` keeps it: its clause is `flag_of`.)
 pub fn flag_of(content: Content) -> u32
     ensures { result ≡ flag_of content }
 {
     match content {
-        Content::Blank => 0,
         Content::Number(_) => 1,
-        Content::Bad(_) => 0,
+        _ => 0,
     }
 }
 
@@ -190,7 +185,7 @@ pub fn flag_of(content: Content) -> u32
 pub fn is_number(content: Content) -> bool
     ensures { result ≡ is_number content }
 {
-    flag_of(content) == 1
+    matches!(content, Content::Number(_))
 }
 
 // The number of a field that is 0 or more, and 0 of any other.
@@ -198,8 +193,7 @@ pub fn natural_of(content: Content) -> u32
     ensures { result ≡ natural content }
 {
     match content {
-        Content::Blank => 0,
-        Content::Number(x) => { if x < 0 { 0 } else { x as u32 } }
-        Content::Bad(_) => 0,
+        Content::Number(x) => x.max(0) as u32,
+        _ => 0,
     }
 }

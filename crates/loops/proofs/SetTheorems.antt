@@ -1,6 +1,6 @@
--- What is proved of the call that sets the rounds of a loop, `Plan::set` (loops/src/lib.rt): it takes a case c that is `Sound`, the number k of a loop and n rounds, and
--- hands back `set_case c k n`, a case and an answer. Assumes nothing. (These theorems stand in proofs/ so that a must-fail edit of `set_case` is read.)
-use Rattle.std.specs.Prelude.{◌≡◌, refl, ◌↔◌, Bool, true, false, ℕ, get_or, set}
+-- What is proved of the call that sets the rounds of a loop, `Plan::set` (loops/src/lib.rt): it takes a case c that is `Sound`, the number k of a loop and n rounds,
+-- leaves the case of `set_case c k n` in its place, and hands back its answer. Assumes nothing. (These theorems stand in proofs/ so that a must-fail edit of `set_case` is read.)
+use Rattle.std.specs.Prelude.{◌≡◌, refl, ◌↔◌, Bool, true, false, ℕ, get_or, set, Ok}
 use Rattle.std.proofs.Math.Path.{sym, ap}
 use Rattle.std.proofs.Common.{◌∙◌, subst}
 use Rattle.std.proofs.Math.Bool.{cond}
@@ -8,9 +8,7 @@ use Rattle.laws.specs.Tests.{cond_by}
 use Rattle.kinds.specs.declared.Kind.TheVariants as kind
 use Rattle.items.specs.Lists.{Items, no_item, with_places}
 use Rattle.items.specs.File.{file_of}
-use Rattle.answers.specs.declared.Setting.{Setting}
-use Rattle.answers.specs.declared.Setting.TheVariants.{Set}
-use Rattle.answers.specs.Answers.{is_set}
+use Rattle.answers.specs.Answers.{is_set, Setting}
 use Rattle.collector.specs.declared.Case.{Case}
 use Rattle.collector.specs.Cases.{case_by, arrays_of, case_of, items_of}
 use Rattle.collector.specs.Sound.{Sound}
@@ -39,12 +37,12 @@ module _ (c : Case) (s : Sound c) (k : ℕ) where
     unfolding set_case
     set_answers = setting.setting_exactly s k n
 
-    -- a refusal hands back the case that was given
+    -- a refusal leaves the case as it was
     pub unchanged : is_set (set_case c k n).answer ≡ false → (set_case c k n).case ≡ c
     unfolding set_case
     unchanged e = ap (λ t. cond t (case_of (with_rounds x (loop_at x.places k) n)) c) e
 
-    -- whatever the answer, what is handed back has what every case has that records make
+    -- whatever the answer, the case after it has what every case has that records make
     pub set_sound : Sound (set_case c k n).case
     unfolding set_case
     set_sound = cond_by Sound (is_set (setting_of x k n)) (λ e. sound_rounds s (loop_at x.places k) n (set_held s k n e).0) (λ e. s)
@@ -54,9 +52,9 @@ module _ (c : Case) (s : Sound c) (k : ℕ) where
     set_drifts = keeps_drifts (set_case c k n).case set_sound
 
     -- where loop k begins with place p and has m rounds, and these are set
-    module _ {p m : ℕ} (h : IsCounted (items_of c).places k p m) (e : (set_case c k n).answer ≡ Set) where
+    module _ {p m : ℕ} (h : IsCounted (items_of c).places k p m) (e : (set_case c k n).answer ≡ Ok tt) where
       may : MayHave n
-      may = ((set_answers Set).0 e).1
+      may = ((set_answers (Ok tt)).0 e).1
 
       case_is : (set_case c k n).case ≡ case_of (with_rounds (items_of c) p n)
       unfolding set_case
@@ -73,12 +71,12 @@ module _ (c : Case) (s : Sound c) (k : ℕ) where
           ≡ case_by c.count c.loops c.drifts (with_places (arrays_of c) (set c.places p (place_with n (get_or c.places p (no_item kind.Place)))))
       set_kept = case_is ∙ case_rounds s p n (counted_held x.places k h)
 
-      -- the file of the case that is handed back is that of the case, with the rounds field of that one record respelled; taking it gives the case that is handed back
+      -- the file of the case after it is that of the case before, with the rounds field of that one record respelled; taking it gives the case after it
       -- (`file_again` of rules_laws/specs/Theorems.antt), so judging the one is judging the other
       pub set_file : Respelled (file_of (items_of c)) (file_of (items_of (set_case c k n).case)) (place_record (items_of c) p) m n
       set_file = subst (λ y. Respelled (file_of x) (file_of y) (place_record x p) m n) (sym set_items) (file_rounds s h may)
 
-  -- setting the rounds that a loop has hands back the case itself
+  -- setting the rounds that a loop has leaves the case as it was
   pub set_own : {p m : ℕ} → IsCounted (items_of c).places k p m → (set_case c k m).case ≡ c
   unfolding set_case
   set_own {p} {m} h = ap (λ d. cond (is_set (setting_of x k m)) d c) same ∙ either (is_set (setting_of x k m))

@@ -1,15 +1,12 @@
 -- What each answer is, stage by stage, as the code goes. Assumes nothing.
-use Rattle.std.specs.Prelude.{◌≡◌, Bool, true, false, cond, ℕ, ◌<◌, length}
+use Rattle.std.specs.Prelude.{◌≡◌, Bool, true, false, cond, ℕ, ◌<◌, length, Err, Ok}
 use Rattle.std.proofs.Common.{sym, ◌∙◌, true≢false, arith}
 use Rattle.std.proofs.Math.Path.{ap, ap₂}
-use Rattle.laws.specs.Tests.{by_test}
 use Rattle.items.specs.Lists.{Items}
-use Rattle.answers.specs.declared.Judgement.{Judgement}
-use Rattle.answers.specs.declared.Judgement.TheVariants.{Accepted}
-use Rattle.answers.specs.declared.Setting.{Setting}
-use Rattle.answers.specs.declared.Setting.TheVariants as setting
-use Rattle.answers.specs.declared.Span.TheVariants as span
-use Rattle.answers.specs.Answers.{is_set}
+use Rattle.answers.specs.declared.Rejection.{Rejection}
+use Rattle.answers.specs.declared.NotSet.TheVariants as not_set
+use Rattle.answers.specs.declared.NoSpan.TheVariants as no_span
+use Rattle.answers.specs.Answers.{is_set, Setting}
 use Rattle.rules.specs.Rules.{mark_at}
 use Rattle.rules.specs.Files.{item_count}
 use Rattle.collector.specs.declared.Case.{Case}
@@ -19,15 +16,10 @@ use Rattle.meaning.specs.Judged.{start_of}
 use Rattle.meaning.specs.Rounds.{with_rounds}
 use Rattle.meaning.specs.Spans.{MayHave, place_record, SettingSays}
 use Rattle.verdict.specs.Verdict.{finished, verdict}
-use Rattle.verdict.specs.Span.{loop_at, counted_rounds, is_accepted, is_none, last_rounds, span_by, span_of, may_have, setting_by, setting_of}
+use Rattle.verdict.specs.Span.{loop_at, counted_rounds, is_none, last_rounds, span_by, span_of, may_have, setting_by, setting_of}
 use Rattle.loops_laws.specs.Numbered.{counted_is, counted_held}
-use Rattle.loops_laws.specs.Spans.{accepted_only}
 use Rattle.loops_laws.specs.Set.{setting_tells}
 use Rattle.loops.specs.Planned.{set_case}
-
--- a judgement that isn't 0
-pub refused : (a : Judgement) → (a ≡ Accepted → ⊥) → is_accepted a ≡ false
-refused a h = by_test (is_accepted a) (λ e. absurd (h (accepted_only a e))) (λ e. e)
 
 -- ---- setting rounds
 
@@ -36,12 +28,12 @@ module _ (x : Items) (k n : ℕ) where
   abbrev p : ℕ
   p = loop_at x.places k
 
-  pub setting_unfinished : finished x ≡ false → setting_of x k n ≡ setting.Unfinished (item_count x)
+  pub setting_unfinished : finished x ≡ false → setting_of x k n ≡ Err (not_set.Unfinished (item_count x))
   unfolding setting_of
   setting_unfinished e = ap (λ t. setting_by x k p t (is_none x p) (may_have n)) e
 
   module _ (e : finished x ≡ true) where
-    pub setting_none : is_none x (loop_at x.places k) ≡ true → setting_of x k n ≡ setting.NoLoop k
+    pub setting_none : is_none x (loop_at x.places k) ≡ true → setting_of x k n ≡ Err (not_set.NoLoop k)
     unfolding setting_of
     setting_none d = ap₂ (λ t u. setting_by x k p t u (may_have n)) e d
 
@@ -50,13 +42,13 @@ module _ (x : Items) (k n : ℕ) where
       unfolding setting_of
       by_range h = λ i. setting_by x k p (e i) (d i) (h i)
 
-      pub setting_set : may_have n ≡ true → setting_of x k n ≡ setting.Set
+      pub setting_set : may_have n ≡ true → setting_of x k n ≡ Ok tt
       setting_set = by_range
 
-      pub setting_out : may_have n ≡ false → setting_of x k n ≡ setting.OutOfRange (place_record x (loop_at x.places k))
+      pub setting_out : may_have n ≡ false → setting_of x k n ≡ Err (not_set.OutOfRange (place_record x (loop_at x.places k)))
       setting_out = by_range
 
--- what is handed back with an answer
+-- the case that is left with an answer
 pub set_by : (c : Case) (k n : ℕ) {a : Setting} → a ≡ setting_of (items_of c) k n → {b : Bool} → is_set a ≡ b →
     record { case = cond b (case_of (with_rounds (items_of c) (loop_at (items_of c).places k) n)) c; answer = a } ≡ set_case c k n
 unfolding set_case
@@ -73,10 +65,10 @@ set_held {c} s k n = by (setting_of x k n) (setting_tells s k n)
     x = items_of c
 
     by : (a : Setting) → SettingSays x k n a → is_set a ≡ true → (MayHave n) × (loop_at x.places k < length x.places)
-    by (setting.Unfinished m) t e = absurd (true≢false (sym e))
-    by (setting.NoLoop j) t e = absurd (true≢false (sym e))
-    by (setting.OutOfRange r) t e = absurd (true≢false (sym e))
-    by setting.Set (f, may, (p, m, h)) e = (may, omega (arith, (counted_is x.places k h).0, counted_held x.places k h))
+    by (Err (not_set.Unfinished m)) t e = absurd (true≢false (sym e))
+    by (Err (not_set.NoLoop j)) t e = absurd (true≢false (sym e))
+    by (Err (not_set.OutOfRange r)) t e = absurd (true≢false (sym e))
+    by (Ok tt) (f, may, (p, m, h)) e = (may, omega (arith, (counted_is x.places k h).0, counted_held x.places k h))
 
 -- ---- the rounds that are accepted
 
@@ -85,18 +77,18 @@ module _ (x : Items) (k : ℕ) where
   abbrev q : ℕ
   q = loop_at x.places k
 
-  pub span_refused : {a : Judgement} → a ≡ verdict x (start_of x) → (a ≡ Accepted → ⊥) → span_of x k ≡ span.Refused a
+  pub span_refused : {a : Rejection} → Err a ≡ verdict x (start_of x) → span_of x k ≡ Err (no_span.Refused a)
   unfolding span_of
-  span_refused {a} e h = λ i. span_by x k q (sym e i) ((ap is_accepted (sym e) ∙ refused a h) i) (is_none x q)
+  span_refused e = λ i. span_by x k q (sym e i) (is_none x q)
 
-  module _ (e : verdict x (start_of x) ≡ Accepted) where
-    pub span_none : is_none x (loop_at x.places k) ≡ true → span_of x k ≡ span.NoLoop k
+  module _ (e : verdict x (start_of x) ≡ Ok tt) where
+    pub span_none : is_none x (loop_at x.places k) ≡ true → span_of x k ≡ Err (no_span.NoLoop k)
     unfolding span_of
-    span_none d = λ i. span_by x k q (e i) (is_accepted (e i)) (d i)
+    span_none d = λ i. span_by x k q (e i) (d i)
 
     pub span_between : is_none x (loop_at x.places k) ≡ false →
         let p = loop_at x.places k in
         let n = counted_rounds (mark_at x.places p) in
-        span_of x k ≡ span.Between (last_rounds x p n 1) (last_rounds x p n 1000000)
+        span_of x k ≡ Ok (last_rounds x p n 1, last_rounds x p n 1000000)
     unfolding span_of
-    span_between d = λ i. span_by x k q (e i) (is_accepted (e i)) (d i)
+    span_between d = λ i. span_by x k q (e i) (d i)

@@ -3,29 +3,22 @@
 
 ghost use Rattle.std.specs.Prelude.{◌≡◌, ◌<◌, length};
 ghost use Rattle.laws.specs.Halving.{is_next};
-ghost use Rattle.rules.specs.Rules.{mark_at};
 ghost use Rattle.meaning.specs.Rounds.{mark_with, with_rounds};
 ghost use Rattle.meaning.specs.Spans.{begins, MayHave};
-ghost use Rattle.verdict.specs.Span.{loop_at, counted_rounds, accepts_with, last_rounds, span_of, may_have, setting_of};
+ghost use Rattle.verdict.specs.Span.{accepts_with, last_rounds, span_of, may_have};
 ghost use Rattle.collector.specs.Cases.{items_of, case_of};
 ghost use Rattle.collector.specs.Sound.{Sound};
 ghost use Rattle.loops.specs.Planned.{set_case};
+ghost use Rattle.loops.specs.Counted.{counted_loop, place_to_set};
 
-use answers::{Judgement, Setting, Span};
+use answers::{NoSpan, NotSet};
 use collector::Case;
-use items::{LoopMark, Place};
+use items::LoopMark;
 
 // A case, of whose plan a loop is looked at or altered.
 #[derive(Clone, Copy)]
 pub struct Plan {
     pub case: Case,
-}
-
-// What setting a loop's rounds hands back: the case with them, or as it was.
-#[derive(Clone, Copy)]
-pub struct Planned {
-    pub case: Case,
-    pub answer: Setting,
 }
 
 // The most rounds of a loop.
@@ -35,66 +28,28 @@ const MOST: u32 = 1000000;
 fn begins(mark: LoopMark) -> bool
     ensures { result ≡ begins mark }
 {
-    match mark {
-        LoopMark::None => false,
-        LoopMark::Counted {
-            length: _,
-            rounds: _,
-            back: _,
-        } => true,
-        LoopMark::Endless { length: _, back: _ } => true,
-    }
+    !matches!(mark, LoopMark::None)
 }
 
-// The first place of loop k, and the number of places where there is none.
-fn loop_at(c: Case, k: usize) -> usize
+// The first place and the rounds of loop k, where it is a counted one.
+fn counted_loop(c: Case, k: usize) -> Option<(usize, u32)>
     requires { Sound c }
-    ensures { result ≡ loop_at (items_of c).places k }
+    ensures { result ≡ counted_loop (items_of c).places k }
 {
-    let places = c.places;
     let mut left = k;
-    let mut p: usize = 0;
-    while p < c.count.places {
-        let place = places[p];
-        let mark = place.mark;
+    for p in 0..c.count.places {
+        let mark = c.places[p].mark;
         if begins(mark) {
             if left == 0 {
-                return p;
+                return match mark {
+                    LoopMark::Counted { rounds, .. } => Some((p, rounds)),
+                    LoopMark::None | LoopMark::Endless { .. } => None,
+                };
             }
-            left = left - 1;
+            left -= 1;
         }
-        p = p + 1;
     }
-    p
-}
-
-// The rounds of a counted loop, and 0 of none.
-fn counted_rounds(mark: LoopMark) -> u32
-    ensures { result ≡ counted_rounds mark }
-{
-    match mark {
-        LoopMark::None => 0,
-        LoopMark::Counted {
-            length: _,
-            rounds,
-            back: _,
-        } => rounds,
-        LoopMark::Endless { length: _, back: _ } => 0,
-    }
-}
-
-// The rounds of the counted loop that place p begins, and 0 where it begins none.
-fn rounds_at(c: Case, p: usize) -> u32
-    requires { Sound c }
-    ensures { result ≡ counted_rounds (mark_at (items_of c).places p) }
-{
-    if c.count.places <= p {
-        return 0;
-    }
-    let places = c.places;
-    let place = places[p];
-    let mark = place.mark;
-    counted_rounds(mark)
+    None
 }
 
 // A loop mark with n rounds, where it is counted.
@@ -102,17 +57,12 @@ fn mark_with(mark: LoopMark, n: u32) -> LoopMark
     ensures { result ≡ mark_with n mark }
 {
     match mark {
-        LoopMark::None => mark,
-        LoopMark::Counted {
+        LoopMark::Counted { length, back, .. } => LoopMark::Counted {
             length,
-            rounds: _,
-            back,
-        } => LoopMark::Counted {
-            length: length,
             rounds: n,
-            back: back,
+            back,
         },
-        LoopMark::Endless { length: _, back: _ } => mark,
+        LoopMark::None | LoopMark::Endless { .. } => mark,
     }
 }
 
@@ -121,17 +71,7 @@ fn with_rounds(mut c: Case, p: usize, n: u32) -> Case
     requires { (Sound c) × (p < length (items_of c).places) }
     ensures { result ≡ case_of (with_rounds (items_of c) p n) }
 {
-    let mut places = c.places;
-    let place = places[p];
-    let way = place.way;
-    let mark = place.mark;
-    places[p] = Place {
-        state: place.state,
-        way: way,
-        marks: place.marks,
-        mark: mark_with(mark, n),
-    };
-    c.places = places;
+    c.places[p].mark = mark_with(c.places[p].mark, n);
     c
 }
 
@@ -140,11 +80,7 @@ fn accepts_with(c: Case, p: usize, n: u32) -> bool
     requires { (Sound c) × (p < length (items_of c).places) × (MayHave n) }
     ensures { result ≡ accepts_with (items_of c) p n }
 {
-    let judgement = judge::judge(with_rounds(c, p, n));
-    let Judgement::Accepted = judgement else {
-        return false;
-    };
-    true
+    judge::judge(with_rounds(c, p, n)).is_ok()
 }
 
 // Whether no number is between two.
@@ -152,10 +88,7 @@ fn is_next(a: u32, b: u32) -> bool
     requires { (MayHave a) × (MayHave b) }
     ensures { result ≡ is_next a b }
 {
-    if a <= b + 1 {
-        return b <= a + 1;
-    }
-    false
+    a <= b + 1 && b <= a + 1
 }
 
 // The last rounds that are accepted from the n rounds of the loop that place p begins towards a limit, which is tried first; then by halving.
@@ -183,71 +116,50 @@ fn last_rounds(c: Case, p: usize, n: u32, limit: u32) -> u32
 fn may_have(n: usize) -> bool
     ensures { result ≡ may_have n }
 {
-    if 1 <= n {
-        return n <= MOST as usize;
-    }
-    false
+    1 <= n && n <= MOST as usize
 }
 
-// What setting n rounds in loop k tells.
-fn setting(c: Case, k: usize, n: usize) -> Setting
+// The first place of loop k, where n rounds may be set in it, and why not where they may not.
+fn setting(c: Case, k: usize, n: usize) -> Result<usize, NotSet>
     requires { Sound c }
-    ensures { result ≡ setting_of (items_of c) k n }
+    ensures { result ≡ place_to_set (items_of c) k n }
 {
-    let count = c.count;
-    let loops = c.loops;
-    let total = count.total();
-    if !judge::finished(count, loops) {
-        return Setting::Unfinished(total);
+    let total = c.count.total();
+    if !judge::finished(c.count, c.loops) {
+        return Err(NotSet::Unfinished(total));
     }
-    let p = loop_at(c, k);
-    let is_none = rounds_at(c, p) == 0;
-    if is_none {
-        return Setting::NoLoop(k);
-    }
+    let Some((p, _)) = counted_loop(c, k) else {
+        return Err(NotSet::NoLoop(k));
+    };
     if may_have(n) {
-        return Setting::Set;
+        return Ok(p);
     }
-    Setting::OutOfRange(total - count.places + p)
+    Err(NotSet::OutOfRange(total - c.count.places + p))
 }
 
 impl Plan {
     // The least and the greatest rounds of loop k with which the case is accepted.
-    pub fn span(self, k: usize) -> Span
+    pub fn span(self, k: usize) -> Result<(u32, u32), NoSpan>
         requires { Sound self.case }
         ensures { result ≡ span_of (items_of self.case) k }
     {
         let case = self.case;
-        let judgement = judge::judge(case);
-        let Judgement::Accepted = judgement else {
-            return Span::Refused(judgement);
+        judge::judge(case)?;
+        let Some((p, n)) = counted_loop(case, k) else {
+            return Err(NoSpan::NoLoop(k));
         };
-        let p = loop_at(case, k);
-        let n = rounds_at(case, p);
-        if n == 0 {
-            return Span::NoLoop(k);
-        }
-        let least = last_rounds(case, p, n, 1);
-        Span::Between(least, last_rounds(case, p, n, MOST))
+        Ok((last_rounds(case, p, n, 1), last_rounds(case, p, n, MOST)))
     }
 
-    // The case with n rounds in loop k; where they can't be set, as it is.
-    pub fn set(self, k: usize, n: usize) -> Planned
-        requires { Sound self.case }
-        ensures value { result ≡ set_case self.case k n }
-        ensures sound { Sound result.case }
+    // Sets n rounds in loop k; where they can't be set, the case stays as it was.
+    pub fn set(&mut self, k: usize, n: usize) -> Result<(), NotSet>
+        requires { Sound self.old.case }
+        ensures answer { result ≡ (set_case self.old.case k n).answer }
+        ensures case { self.new.case ≡ (set_case self.old.case k n).case }
+        ensures sound { Sound self.new.case }
     {
-        let case = self.case;
-        let answer = setting(case, k, n);
-        if !answer.is_set() {
-            return Planned {
-                case: case,
-                answer: answer,
-            };
-        }
-        Planned {
-            case: with_rounds(case, loop_at(case, k), n as u32),
-            answer: answer,
-        }
+        let p = setting(self.case, k, n)?;
+        self.case = with_rounds(self.case, p, n as u32);
+        Ok(())
     }
 }

@@ -1,13 +1,12 @@
 -- What setting a loop's rounds tells: each answer exactly where it says so. Assumes nothing.
-use Rattle.std.specs.Prelude.{◌≡◌, ◌↔◌, Bool, ℕ, leb}
+use Rattle.std.specs.Prelude.{◌≡◌, ◌↔◌, Bool, ℕ, leb, Err, Ok}
 use Rattle.std.proofs.Math.Path.{refl}
 use Rattle.std.proofs.Common.{sym, ◌∙◌, ap, subst, arith}
 use Rattle.std.proofs.Math.Bool.{true, false}
 use borrow.Author.Tests.{eqb-true, eqb-false}
 use Rattle.laws.specs.Tests.{Tells, tells_not, tells_le, tells_and}
 use Rattle.items.specs.Lists.{Items}
-use Rattle.answers.specs.declared.Setting.{Setting}
-use Rattle.answers.specs.declared.Setting.TheVariants as setting
+use Rattle.answers.specs.declared.NotSet.TheVariants as not_set
 use Rattle.rules.specs.Rules.{mark_at}
 use Rattle.meaning.specs.Spans.{MayHave, place_record, SettingSays}
 use Rattle.verdict.specs.Verdict.{finished}
@@ -17,26 +16,27 @@ use Rattle.collector.specs.Cases.{items_of}
 use Rattle.collector.specs.Sound.{Sound}
 use Rattle.verdict_laws.specs.Judge.{tells_finished}
 use Rattle.loops_laws.specs.Numbered.{counted_at, counted_is, no_counted}
+use Rattle.answers.specs.Answers.{Setting}
 
 -- no two of them are said of one case
 pub setting_one : (x : Items) (k n : ℕ) (a b : Setting) → SettingSays x k n a → SettingSays x k n b → a ≡ b
-setting_one x k n (setting.Unfinished i) (setting.Unfinished j) (f, e) (g, d) = ap setting.Unfinished (e ∙ sym d)
-setting_one x k n (setting.Unfinished i) (setting.NoLoop j) (f, e) (d, g, none) = absurd (f g)
-setting_one x k n (setting.Unfinished i) (setting.OutOfRange r) (f, e) (g, no-may, l) = absurd (f g)
-setting_one x k n (setting.Unfinished i) setting.Set (f, e) (g, may, l) = absurd (f g)
-setting_one x k n (setting.NoLoop i) (setting.Unfinished j) (e, g, none) (f, d) = absurd (f g)
-setting_one x k n (setting.NoLoop i) (setting.NoLoop j) (e, g, none) (d, h, others) = ap setting.NoLoop (e ∙ sym d)
-setting_one x k n (setting.NoLoop i) (setting.OutOfRange r) (e, g, none) (h, no-may, (p, m, l, w)) = absurd (none p m l)
-setting_one x k n (setting.NoLoop i) setting.Set (e, g, none) (h, may, (p, m, l)) = absurd (none p m l)
-setting_one x k n (setting.OutOfRange r) (setting.Unfinished j) (g, no-may, l) (f, e) = absurd (f g)
-setting_one x k n (setting.OutOfRange r) (setting.NoLoop j) (g, no-may, (p, m, l, w)) (e, h, none) = absurd (none p m l)
-setting_one x k n (setting.OutOfRange r) (setting.OutOfRange q) (g, no-may, (p, m, l, w)) (h, none, (i, j, t, v)) =
-    ap setting.OutOfRange (w ∙ ap (place_record x) ((counted_is x.places k l).0 ∙ sym (counted_is x.places k t).0) ∙ sym v)
-setting_one x k n (setting.OutOfRange r) setting.Set (g, no-may, l) (h, may, t) = absurd (no-may may)
-setting_one x k n setting.Set (setting.Unfinished j) (g, may, l) (f, e) = absurd (f g)
-setting_one x k n setting.Set (setting.NoLoop j) (g, may, (p, m, l)) (e, h, none) = absurd (none p m l)
-setting_one x k n setting.Set (setting.OutOfRange r) (g, may, l) (h, no-may, t) = absurd (no-may may)
-setting_one x k n setting.Set setting.Set u v = refl
+setting_one x k n (Err (not_set.Unfinished i)) (Err (not_set.Unfinished j)) (f, e) (g, d) = ap (λ n. Err (not_set.Unfinished n)) (e ∙ sym d)
+setting_one x k n (Err (not_set.Unfinished i)) (Err (not_set.NoLoop j)) (f, e) (d, g, none) = absurd (f g)
+setting_one x k n (Err (not_set.Unfinished i)) (Err (not_set.OutOfRange r)) (f, e) (g, no-may, l) = absurd (f g)
+setting_one x k n (Err (not_set.Unfinished i)) (Ok tt) (f, e) (g, may, l) = absurd (f g)
+setting_one x k n (Err (not_set.NoLoop i)) (Err (not_set.Unfinished j)) (e, g, none) (f, d) = absurd (f g)
+setting_one x k n (Err (not_set.NoLoop i)) (Err (not_set.NoLoop j)) (e, g, none) (d, h, others) = ap (λ n. Err (not_set.NoLoop n)) (e ∙ sym d)
+setting_one x k n (Err (not_set.NoLoop i)) (Err (not_set.OutOfRange r)) (e, g, none) (h, no-may, (p, m, l, w)) = absurd (none p m l)
+setting_one x k n (Err (not_set.NoLoop i)) (Ok tt) (e, g, none) (h, may, (p, m, l)) = absurd (none p m l)
+setting_one x k n (Err (not_set.OutOfRange r)) (Err (not_set.Unfinished j)) (g, no-may, l) (f, e) = absurd (f g)
+setting_one x k n (Err (not_set.OutOfRange r)) (Err (not_set.NoLoop j)) (g, no-may, (p, m, l, w)) (e, h, none) = absurd (none p m l)
+setting_one x k n (Err (not_set.OutOfRange r)) (Err (not_set.OutOfRange q)) (g, no-may, (p, m, l, w)) (h, none, (i, j, t, v)) =
+    ap (λ n. Err (not_set.OutOfRange n)) (w ∙ ap (place_record x) ((counted_is x.places k l).0 ∙ sym (counted_is x.places k t).0) ∙ sym v)
+setting_one x k n (Err (not_set.OutOfRange r)) (Ok tt) (g, no-may, l) (h, may, t) = absurd (no-may may)
+setting_one x k n (Ok tt) (Err (not_set.Unfinished j)) (g, may, l) (f, e) = absurd (f g)
+setting_one x k n (Ok tt) (Err (not_set.NoLoop j)) (g, may, (p, m, l)) (e, h, none) = absurd (none p m l)
+setting_one x k n (Ok tt) (Err (not_set.OutOfRange r)) (g, may, l) (h, no-may, t) = absurd (no-may may)
+setting_one x k n (Ok tt) (Ok t) u v = refl
 
 -- ---- the tests
 

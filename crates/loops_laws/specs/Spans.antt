@@ -1,6 +1,6 @@
 -- The rounds that a case is accepted with: the search finds the least and the greatest, those between them are all, and the answer is the one that says so.
 -- Assumes nothing.
-use Rattle.std.specs.Prelude.{◌≡◌, refl, ◌↔◌, Bool, true, false, ℕ, ◌+◌, ◌^◌, ◌≤◌, set}
+use Rattle.std.specs.Prelude.{◌≡◌, refl, ◌↔◌, Bool, true, false, ℕ, ◌+◌, ◌^◌, ◌≤◌, set, Err, Ok}
 use Rattle.std.proofs.Common.{sym, ◌∙◌, ap, ap₂, subst, true≢false, arith, eqb-true}
 use Rattle.std.proofs.Math.Decide.{dec_lt}
 use Rattle.std.proofs.Math.Dec.{lit≤}
@@ -11,10 +11,7 @@ use Rattle.laws.specs.Halved.{least_found, greatest_found}
 use Rattle.kinds.specs.declared.Kind.TheVariants as kind
 use Rattle.items.specs.declared.LoopMark.TheVariants as mark
 use Rattle.items.specs.Lists.{Items, no_item, with_places}
-use Rattle.answers.specs.declared.Judgement.{Judgement}
-use Rattle.answers.specs.declared.Judgement.TheVariants.{Accepted, Unfinished, WrongStart, Unconnected, GuardFails, WrongMark, RootUnmarked}
-use Rattle.answers.specs.declared.Span.{Span}
-use Rattle.answers.specs.declared.Span.TheVariants as span
+use Rattle.answers.specs.declared.NoSpan.TheVariants as no_span
 use Rattle.rules.specs.Rules.{mark_at}
 use Rattle.meaning.specs.Run.{place_at}
 use Rattle.meaning.specs.Judged.{start_of, IsAccepted, Judged}
@@ -31,17 +28,13 @@ use Rattle.verdict_laws.specs.Theorems.{judged, verdict_one}
 use Rattle.places.specs.OneField.{with_mark}
 use Rattle.loops_laws.specs.Numbered.{counted_at, counted_is, counted_held, counted_rounds_lem, no_counted}
 use Rattle.loops_laws.specs.Held.{sound_rounds}
+use Rattle.answers.specs.Answers.{Judgement, Span}
 
 -- ---- the test
 
-pub accepted_only : (a : Judgement) → is_accepted a ≡ true → a ≡ Accepted
-accepted_only Accepted e = refl
-accepted_only (Unfinished n) e = absurd (true≢false (sym e))
-accepted_only WrongStart e = absurd (true≢false (sym e))
-accepted_only (Unconnected p t) e = absurd (true≢false (sym e))
-accepted_only (GuardFails p g) e = absurd (true≢false (sym e))
-accepted_only (WrongMark p i) e = absurd (true≢false (sym e))
-accepted_only (RootUnmarked r) e = absurd (true≢false (sym e))
+pub accepted_only : (a : Judgement) → is_accepted a ≡ true → a ≡ Ok tt
+accepted_only (Ok tt) e = refl
+accepted_only (Err a) e = absurd (true≢false (sym e))
 
 -- it tells whether the case is accepted, as it is or with n rounds in one loop
 pub tells_accepted : {c : Case} → Sound c → Tells (is_accepted (verdict (items_of c) (start_of (items_of c)))) (IsAccepted (items_of c) (start_of (items_of c)))
@@ -49,7 +42,7 @@ tells_accepted {c} s =
     let x = items_of c in
     let θ = start_of x in (
       λ e. subst (Judged x θ) (accepted_only (verdict x θ) e) (judged c s θ),
-      λ g. ap is_accepted (sym (verdict_one c s θ Accepted g)),
+      λ g. ap is_accepted (sym (verdict_one c s θ (Ok tt) g)),
     )
 
 pub tells_with : {c : Case} → Sound c → (p n : ℕ) → MayHave n → Tells (accepts_with (items_of c) p n) (AcceptedWith (items_of c) p n)
@@ -130,7 +123,7 @@ one_span s t = (
 -- the answer that is computed is so
 span_tells : {c : Case} → Sound c → (k : ℕ) → SpanSays (items_of c) k (span_of (items_of c) k)
 unfolding span_of
-span_tells {c} s k = by (is_accepted (verdict x (start_of x))) (is_none x p) refl refl
+span_tells {c} s k = by (verdict x (start_of x)) (is_none x p) refl refl
   where
     x : Items
     x = items_of c
@@ -141,28 +134,33 @@ span_tells {c} s k = by (is_accepted (verdict x (start_of x))) (is_none x p) ref
     n : ℕ
     n = counted_rounds (mark_at (items_of c).places (loop_at (items_of c).places k))
 
-    by : (t u : Bool) → is_accepted (verdict x (start_of x)) ≡ t → is_none x p ≡ u → SpanSays x k (span_by x k p (verdict x (start_of x)) t u)
-    by false u e d = (tells_not _ (tells_accepted s) e, judged c s (start_of x))
-    by true true e d = (refl, (tells_accepted s).0 e, no_counted s k (eqb-true n 0 d))
-    by true false e d =
-        let g = (tells_accepted s).0 e in
+    by : (a : Judgement) (u : Bool) → verdict x (start_of x) ≡ a → is_none x p ≡ u → SpanSays x k (span_by x k p a u)
+    by (Err a) u e d = (tells_not _ (tells_accepted s) (ap is_accepted e), subst (Judged x (start_of x)) e (judged c s (start_of x)))
+    by (Ok tt) true e d = (refl, (tells_accepted s).0 (ap is_accepted e), no_counted s k (eqb-true n 0 d))
+    by (Ok tt) false e d =
+        let g = (tells_accepted s).0 (ap is_accepted e) in
         let h = counted_at x.places k (omega (arith, eqb-false n 0 d)) in
         (g, (p, n, h, span_found s h g))
 
+-- what finding tells of a case that isn't accepted
+abbrev refused_span : Judgement → Span
+refused_span (Ok tt) = Ok (0, 0)
+refused_span (Err a) = Err (no_span.Refused a)
+
 -- and it is the only one
 says_one : (x : Items) (k : ℕ) (a b : Span) → SpanSays x k a → SpanSays x k b → a ≡ b
-says_one x k (span.Refused a) (span.Refused b) (g, i) (h, j) = ap span.Refused (one_answer x (start_of x) a b i j)
-says_one x k (span.Refused a) (span.NoLoop j) (g, i) (d, h, m) = absurd (g h)
-says_one x k (span.Refused a) (span.Between u v) (g, i) (h, m) = absurd (g h)
-says_one x k (span.NoLoop i) (span.Refused b) (d, g, m) (h, j) = absurd (h g)
-says_one x k (span.NoLoop i) (span.NoLoop j) (d, g, m) (e, h, o) = ap span.NoLoop (d ∙ sym e)
-says_one x k (span.NoLoop i) (span.Between u v) (d, g, m) (h, (p, n, o, t)) = absurd (m p n o)
-says_one x k (span.Between a b) (span.Refused r) (g, m) (h, j) = absurd (h g)
-says_one x k (span.Between a b) (span.NoLoop j) (g, (p, n, o, t)) (d, h, m) = absurd (m p n o)
-says_one x k (span.Between a b) (span.Between u v) (g, (p, n, o, t)) (h, (q, m, i, w)) =
+says_one x k (Err (no_span.Refused a)) (Err (no_span.Refused b)) (g, i) (h, j) = ap refused_span (one_answer x (start_of x) (Err a) (Err b) i j)
+says_one x k (Err (no_span.Refused a)) (Err (no_span.NoLoop j)) (g, i) (d, h, m) = absurd (g h)
+says_one x k (Err (no_span.Refused a)) (Ok (u, v)) (g, i) (h, m) = absurd (g h)
+says_one x k (Err (no_span.NoLoop i)) (Err (no_span.Refused b)) (d, g, m) (h, j) = absurd (h g)
+says_one x k (Err (no_span.NoLoop i)) (Err (no_span.NoLoop j)) (d, g, m) (e, h, o) = ap (λ n. Err (no_span.NoLoop n)) (d ∙ sym e)
+says_one x k (Err (no_span.NoLoop i)) (Ok (u, v)) (d, g, m) (h, (p, n, o, t)) = absurd (m p n o)
+says_one x k (Ok (a, b)) (Err (no_span.Refused r)) (g, m) (h, j) = absurd (h g)
+says_one x k (Ok (a, b)) (Err (no_span.NoLoop j)) (g, (p, n, o, t)) (d, h, m) = absurd (m p n o)
+says_one x k (Ok (a, b)) (Ok (u, v)) (g, (p, n, o, t)) (h, (q, m, i, w)) =
     let e : q ≡ p = (counted_is x.places k i).0 ∙ sym (counted_is x.places k o).0 in
     let (d, f) = one_span t (subst (λ r. IsSpan x r u v) e w) in
-    ap₂ span.Between d f
+    ap₂ (λ n m. Ok (n, m)) d f
 
 -- each is given exactly where it says so
 pub span_answers : {c : Case} → Sound c → (k : ℕ) (a : Span) → (span_of (items_of c) k ≡ a) ↔ SpanSays (items_of c) k a

@@ -1,5 +1,5 @@
 -- The marks of a plan by sentence: each sentence at all places; and what the first sentence that is off tells. Assumes nothing.
-use Rattle.std.specs.Prelude.{◌≡◌, map, Bool, ltb, length, replicate}
+use Rattle.std.specs.Prelude.{◌≡◌, map, Bool, ltb, length, None, Option, Some}
 use Rattle.std.proofs.Math.Path.{refl, sym, ap}
 use Rattle.std.proofs.Common.{◌∙◌, lt-ltb, le-ltb, ltb-true, ltb-false}
 use Rattle.std.proofs.Math.Bool.{true, false, cond}
@@ -15,11 +15,10 @@ use Rattle.verdict.specs.Verdict.{Found, nowhere, at, first_not, form_through, m
 use Rattle.verdict.specs.Fill.{row_at}
 use Rattle.rounds.specs.Rows.{first_off, wrong_in}
 use Rattle.rounds.specs.Codes.{wrong_by, off_is}
-use Rattle.guards.specs.declared.Search.{Search}
-use Rattle.guards.specs.declared.Search.TheVariants.{Nowhere, At}
 use Rattle.guards.specs.Found.{else_found, found, found_start, found_turn, found_end}
 use Rattle.marks.specs.declared.Off.{Off}
 use Rattle.marks.specs.Wrong.{form_at, sentence_row, wrong_of, first_off_of, first_off_from, told_mark}
+use Rattle.guards.specs.GuardSums.{Search}
 
 -- ---- a row, which has a k for each number k
 
@@ -52,7 +51,7 @@ module _ (x : Items) where
   rows_start : told_mark (first_not (mark_right x (start_of x)) (marks_of x)) ≡ rows_from 0
   rows_start = ap told_mark (found_start (mark_right x (start_of x)) (row_at x) n)
 
-  rows_end : (i : ℕ) → n ≤ i → rows_from i ≡ Nowhere
+  rows_end : (i : ℕ) → n ≤ i → rows_from i ≡ None
   rows_end i h = ap told_mark (found_end (mark_right x (start_of x)) (row_at x) n i h)
 
   -- where p is the first place at which sentence i is marked wrongly: it is found, or there is none and the sentence is passed over
@@ -63,7 +62,7 @@ module _ (x : Items) where
     rows_turn : rows_from i ≡ told_mark (else_found (cond (ltb p (length x.places)) (at (mark_for i p)) nowhere) (found (mark_right x (start_of x)) (row_at x) n (i + 1)))
     rows_turn = ap told_mark (found_turn (mark_right x (start_of x)) (row_at x) n i h) ∙ rw row_is
 
-    rows_here : p < length x.places → rows_from i ≡ At (record { 0 = p }) i
+    rows_here : p < length x.places → rows_from i ≡ Some ((record { 0 = p }), i)
     rows_here l = rows_turn ∙ rw (lt-ltb p (length x.places) l)
 
     rows_later : length x.places ≤ p → rows_from i ≡ rows_from (i + 1)
@@ -71,26 +70,38 @@ module _ (x : Items) where
 
   -- ---- by the first sentence that is off
 
-  pub off_turn : (i : ℕ) → i < n → first_off_from x i ≡ cond (sentence_row x i).off (record { sentence = i; row = sentence_row x i }) (first_off_from x (i + 1))
+  pub off_turn : (i : ℕ) → i < n → first_off_from x i ≡ cond (sentence_row x i).off (Some (record { sentence = i; row = sentence_row x i })) (first_off_from x (i + 1))
   unfolding first_off_of
   off_turn i h =
       let d : n - i ≡ suc (n - (i + 1)) = omega arith in
       let e : suc i ≡ i + 1 = omega arith in
-      ap (first_off_of x i) d ∙ ap (λ k. cond (sentence_row x i).off (record { sentence = i; row = sentence_row x i }) (first_off_of x k (n - (i + 1)))) e
+      ap (first_off_of x i) d ∙ ap (λ k. cond (sentence_row x i).off (Some (record { sentence = i; row = sentence_row x i })) (first_off_of x k (n - (i + 1)))) e
 
-  pub off_end : (i : ℕ) → n ≤ i → first_off_from x i ≡ record { sentence = i; row = record { at = replicate (room_of kind.Place) 0; off = false } }
+  pub off_end : (i : ℕ) → n ≤ i → first_off_from x i ≡ None
   unfolding first_off_of
   off_end i h = let d : n - i ≡ 0 = omega arith in ap (first_off_of x i) d
 
   -- what it tells: its first wrong mark
-  abbrev pub told_off : Off → Search
-  told_off r = cond (ltb r.sentence n) (At (record { 0 = wrong_in x r.sentence r.row }) r.sentence) Nowhere
+  abbrev pub told_off : Option Off → Search
+  told_off None = None
+  told_off (Some r) = Some ((record { 0 = wrong_in x r.sentence r.row }), r.sentence)
+
+  -- it is one of the sentences
+  pub off_within : (i d : ℕ) {r : Off} → first_off_of x i d ≡ Some r → r.sentence < i + d
+  unfolding first_off_of
+  off_within i zero e = absurd (cc e)
+  off_within i (suc d) e = by (sentence_row x i).off (first_off_of x (suc i) d) (λ r f. off_within (suc i) d f) e
+    where
+      by : (t : Bool) (o : Option Off) {r : Off} → ((r : Off) → o ≡ Some r → r.sentence < suc i + d)
+          → cond t (Some (record { sentence = i; row = sentence_row x i })) o ≡ Some r → r.sentence < i + suc d
+      by true o {r} h e = let f : i ≡ r.sentence = cc in omega arith
+      by false o {r} h e = omega (arith, h r e)
 
   module _ (few : length x.places ≤ room_of kind.Place) where
     -- of the d sentences from i on
     off_told : (i d : ℕ) → i + d ≡ n → rows_from i ≡ told_off (first_off_of x i d)
     unfolding first_off_of
-    off_told i zero e = rows_end i (omega arith) ∙ sym (rw (le-ltb i n (omega arith)))
+    off_told i zero e = rows_end i (omega arith)
     off_told i (suc d) e = let k : suc i ≡ i + 1 = omega arith in by (sentence_row x i).off (first_off_of x (suc i) d) refl (ap rows_from (sym k) ∙ off_told (suc i) d (omega arith))
       where
         f : ℕ → Throughout
@@ -105,9 +116,9 @@ module _ (x : Items) where
         off_first : (sentence_row x i).off ≡ ltb p (length x.places)
         off_first = off_is x i f ∙ ap (λ q. ltb q (length x.places)) (sym p_is)
 
-        by : (t : Bool) (r : Off) → (sentence_row x i).off ≡ t → rows_from (i + 1) ≡ told_off r →
-            rows_from i ≡ told_off (cond t (record { sentence = i; row = sentence_row x i }) r)
-        by true r w h = rows_here i (omega arith) p_is (ltb-true p (length x.places) (sym off_first ∙ w)) ∙ sym (rw (lt-ltb i n (omega arith)))
+        by : (t : Bool) (r : Option Off) → (sentence_row x i).off ≡ t → rows_from (i + 1) ≡ told_off r →
+            rows_from i ≡ told_off (cond t (Some (record { sentence = i; row = sentence_row x i })) r)
+        by true r w h = rows_here i (omega arith) p_is (ltb-true p (length x.places) (sym off_first ∙ w))
         by false r w h = rows_later i (omega arith) p_is (ltb-false p (length x.places) (sym off_first ∙ w)) ∙ h
 
     pub told_off_lem : told_mark (first_not (mark_right x (start_of x)) (marks_of x)) ≡ told_off (first_off_from x 0)

@@ -1,10 +1,9 @@
 -- The coefficients of every sentence are in their range. Assumes nothing.
-use Rattle.std.specs.Prelude.{ℕ, ℤ, get_or}
+use Rattle.std.specs.Prelude.{ℕ, ℤ, get_or, None, Option, Some}
 use Rattle.std.proofs.Common.{arith}
 use Rattle.kinds.specs.declared.Kind.TheVariants as kind
 use Rattle.table.specs.Table.{rule_at, shape_of}
 use Rattle.items.specs.declared.Term.{Term}
-use Rattle.items.specs.declared.Term.TheVariants as term
 use Rattle.items.specs.declared.Form.{Form}
 use Rattle.items.specs.declared.Form.TheVariants as form
 use Rattle.items.specs.declared.Sentence.{Sentence}
@@ -30,12 +29,12 @@ Ranged (form.Until a b z t u) = Mild t × Mild u
 
 -- ---- every sentence of a case with the invariant is such
 
-terms_ranged : (a b : ℕ) (z : ℤ) (t u : Term) → Fit kind.Sentence (row_of kind.Sentence (record { form = form.Until a b z t u })) → Mild t × Mild u
+terms_ranged : (a b : ℕ) (z : ℤ) (t u : Option Term) → Fit kind.Sentence (row_of kind.Sentence (record { form = form.Until a b z t u })) → Mild t × Mild u
 unfolding row_of rule_at shape_of
-terms_ranged a b z term.None term.None f = (tt, tt)
-terms_ranged a b z term.None (term.Some d r) f = (tt, field_within 999 d (met f 7).ranged)
-terms_ranged a b z (term.Some c s) term.None f = (field_within 999 c (met f 5).ranged, tt)
-terms_ranged a b z (term.Some c s) (term.Some d r) f = (field_within 999 c (met f 5).ranged, field_within 999 d (met f 7).ranged)
+terms_ranged a b z None None f = (tt, tt)
+terms_ranged a b z None (Some d) f = (tt, field_within 999 d.coefficient (met f 7).ranged)
+terms_ranged a b z (Some c) None f = (field_within 999 c.coefficient (met f 5).ranged, tt)
+terms_ranged a b z (Some c) (Some d) f = (field_within 999 c.coefficient (met f 5).ranged, field_within 999 d.coefficient (met f 7).ranged)
 
 form_ranged : (φ : Form) → Fit kind.Sentence (row_of kind.Sentence (record { form = φ })) → Ranged φ
 form_ranged form.True f = tt

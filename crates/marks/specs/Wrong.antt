@@ -1,9 +1,9 @@
 -- The row of a sentence, by its form; the first place at which it is marked wrongly, and what a search for a wrong mark found, as the code tells it.
-use Rattle.std.specs.Prelude.{Bool, true, false, cond, not, ◌&&◌, ℕ, zero, suc, ◌-◌, length, get_or, replicate}
+use Rattle.std.specs.Prelude.{Bool, true, false, cond, not, ◌&&◌, ℕ, zero, suc, ◌-◌, length, get_or, None, Option, Some}
 use Rattle.kinds.specs.declared.Kind.TheVariants as kind
 use Rattle.items.specs.declared.Form.{Form}
 use Rattle.items.specs.declared.Form.TheVariants as form
-use Rattle.items.specs.Lists.{Items, room_of, no_item}
+use Rattle.items.specs.Lists.{Items, no_item}
 use Rattle.meaning.specs.Truth.{bit}
 use Rattle.meaning.specs.Run.{place_at}
 use Rattle.meaning.specs.Judged.{start_of, state_at, Mark}
@@ -12,9 +12,8 @@ use Rattle.verdict.specs.Rounds.{flag}
 use Rattle.verdict.specs.Verdict.{Found, nowhere, at, form_through, mark_right}
 use Rattle.rounds.specs.declared.Row.{Row}
 use Rattle.rounds.specs.Rows.{row_of, first_off}
-use Rattle.guards.specs.declared.Search.{Search}
-use Rattle.guards.specs.declared.Search.TheVariants.{Nowhere, At}
 use Rattle.marks.specs.declared.Off.{Off}
+use Rattle.guards.specs.GuardSums.{Search}
 
 -- the form of sentence i
 abbrev pub form_at : Items → ℕ → Form
@@ -30,13 +29,13 @@ wrong_of x i = first_off (λ p. mark_right x (start_of x) (record { sentence = i
 
 -- ---- the first sentence that is off
 
--- of d sentences from number i on; and where none is, the number after them
-unfoldable pub first_off_of : Items → ℕ → ℕ → Off
-first_off_of x i zero = record { sentence = i; row = record { at = replicate (room_of kind.Place) 0; off = false } }
-first_off_of x i (suc d) = cond (sentence_row x i).off (record { sentence = i; row = sentence_row x i }) (first_off_of x (suc i) d)
+-- of d sentences from number i on
+unfoldable pub first_off_of : Items → ℕ → ℕ → Option Off
+first_off_of x i zero = None
+first_off_of x i (suc d) = cond (sentence_row x i).off (Some (record { sentence = i; row = sentence_row x i })) (first_off_of x (suc i) d)
 
 -- of all from number i on
-abbrev pub first_off_from : Items → ℕ → Off
+abbrev pub first_off_from : Items → ℕ → Option Off
 first_off_from x i = first_off_of x i (length x.sentences - i)
 
 -- ---- by form
@@ -59,5 +58,5 @@ simple_through x φ p = flag (same_always φ (get_or x.states (state_at x p) (no
 
 -- a sentence at a place
 abbrev pub told_mark : Found Mark → Search
-told_mark nowhere = Nowhere
-told_mark (at k) = At (record { 0 = k.place }) k.sentence
+told_mark nowhere = None
+told_mark (at k) = Some ((record { 0 = k.place }), k.sentence)

@@ -16,13 +16,12 @@ ghost use Rattle.tables.specs.Tables.{firsts_of, tables_of};
 ghost use Rattle.marks.specs.Wrong.{same_always, simple_through, first_off_from, told_mark};
 
 use collector::Case;
-use guards::Search;
 use items::{Form, LoopMark, PlaceNo};
 use rounds::Row;
 use tables::{Firsts, Tables};
 use verdict::{Rounds, Throughout};
 
-// A sentence that is off, with its row; where none is, the number after the last sentence.
+// A sentence that is off, with its row.
 #[derive(Clone, Copy)]
 pub struct Off {
     pub sentence: usize,
@@ -56,30 +55,25 @@ fn next_through(p: usize, q: usize, mark: LoopMark, again: bool, out: bool) -> T
     rounds::flag(out)
 }
 
-// The row of sentence i, next a: from the last place to the first.
+// The row of sentence i, next a: from the last place to the first. (A loop of its own: a closure's clause can't say what it carries along.)
 fn next_row(c: Case, firsts: Firsts, i: u8, a: u8) -> Row
     requires { (Sound c) × (firsts ≡ firsts_of (items_of c).places) }
     ensures { result ≡ row_of (items_of c) i (next_through (items_of c) a) }
 {
-    let places = c.places;
-    let n = c.count.places;
     let mut row = [0u8; Case::PLACES];
     let mut off = false;
     let mut out = false;
-    let mut p = n;
-    while 0 < p {
-        p = p - 1;
+    for p in (0..c.count.places).rev() {
         let q = firsts.at[p] as usize;
-        let first = places[q];
-        let mark = first.mark;
-        let here = places[p];
-        let t = next_through(p, q, mark, rounds::bit(first.marks, a), out);
+        let first = c.places[q];
+        let here = c.places[p];
+        let t = next_through(p, q, first.mark, rounds::bit(first.marks, a), out);
         let code = rounds::code(t);
         row[p] = code;
         off = rounds::off_by(off, code, rounds::bit(here.marks, i));
         out = rounds::bit(here.marks, a);
     }
-    Row { at: row, off: off }
+    Row { at: row, off }
 }
 
 // A sentence that is the same in every round, at a place with these propositions and marks.
@@ -88,121 +82,79 @@ fn same_always(form: Form, propositions: u16, marks: u32) -> bool
 {
     match form {
         Form::True => true,
-        Form::Proposition(v) => rounds::bit(propositions as u32, v),
-        Form::Guard(_) => false,
-        Form::And(a, b) => {
-            if rounds::bit(marks, a) {
-                return rounds::bit(marks, b);
-            }
-            false
-        }
+        Form::Proposition(v) => rounds::bit(u32::from(propositions), v),
+        Form::And(a, b) => rounds::bit(marks, a) && rounds::bit(marks, b),
         Form::Not(a) => !rounds::bit(marks, a),
-        Form::Next(_) => false,
-        Form::Until {
-            held: _,
-            goal: _,
-            bound: _,
-            term1: _,
-            term2: _,
-        } => false,
+        Form::Guard(_) | Form::Next(_) | Form::Until { .. } => false,
     }
 }
 
-// The row of sentence i, such a sentence.
+// The row of sentence i, such a sentence. (As `guard_row`; a closure would be called once for each place, and its clause said again.)
 fn simple_row(c: Case, i: u8, form: Form) -> Row
     requires { Sound c }
     ensures { result ≡ row_of (items_of c) i (simple_through (items_of c) form) }
 {
-    let states = c.states;
-    let places = c.places;
     let mut row = [0u8; Case::PLACES];
     let mut off = false;
-    let mut p: usize = 0;
-    while p < c.count.places {
-        let place = places[p];
+    for p in 0..c.count.places {
+        let place = c.places[p];
         let s = place.state as usize;
-        let state = states[s];
-        let code = rounds::mark_code(same_always(form, state.propositions, place.marks));
+        let code = rounds::mark_code(same_always(form, c.states[s].propositions, place.marks));
         row[p] = code;
         off = rounds::off_by(off, code, rounds::bit(place.marks, i));
-        p = p + 1;
     }
-    Row { at: row, off: off }
+    Row { at: row, off }
 }
 
 // The first sentence from number `start` on that is marked at some place otherwise than it is there, by the marks of the sentences below; with its row.
 // Judging stops at it, and filling in the marks puts it right.
-pub fn first_off(c: Case, t: Tables, start: usize) -> Off
+pub fn first_off(c: Case, t: Tables, start: usize) -> Option<Off>
     requires { (Sound c) × (t ≡ tables_of (items_of c)) × (Closed (items_of c)) }
     ensures { result ≡ first_off_from (items_of c) start }
 {
-    let firsts = t.firsts;
-    let sentences = c.sentences;
-    let n = c.count.sentences;
-    let mut i = start;
-    while i < n {
-        let sentence = sentences[i];
-        let form = sentence.form;
+    for i in start..c.count.sentences {
+        let form = c.sentences[i].form;
         let k = i as u8;
         let row = match form {
-            Form::True => simple_row(c, k, form),
-            Form::Proposition(_) => simple_row(c, k, form),
+            Form::True | Form::Proposition(_) | Form::And(_, _) | Form::Not(_) => {
+                simple_row(c, k, form)
+            }
             Form::Guard(g) => guards::guard_row(c, t, k, g),
-            Form::And(_, _) => simple_row(c, k, form),
-            Form::Not(_) => simple_row(c, k, form),
-            Form::Next(a) => next_row(c, firsts, k, a),
+            Form::Next(a) => next_row(c, t.firsts, k, a),
             Form::Until {
                 held,
                 goal,
                 bound,
                 term1,
                 term2,
-            } => untils::until_row(c, firsts, k, held, goal, bound, term1, term2),
+            } => untils::until_row(c, t.firsts, k, held, goal, bound, term1, term2),
         };
         if row.off {
-            return Off {
-                sentence: i,
-                row: row,
-            };
+            return Some(Off { sentence: i, row });
         }
-        i = i + 1;
     }
-    Off {
-        sentence: i,
-        row: Row {
-            at: [0; Case::PLACES],
-            off: false,
-        },
-    }
+    None
 }
 
-// The first place at which sentence i is marked otherwise than its row says.
+// The first place at which sentence i is marked otherwise than its row says. (No Option: it is asked only where there is one.)
 fn wrong_in(c: Case, i: u8, row: Row) -> usize
     requires { Sound c }
     ensures { result ≡ wrong_in (items_of c) i row }
 {
-    let places = c.places;
-    let mut p: usize = 0;
-    while p < c.count.places {
-        let place = places[p];
-        if row.at[p] != rounds::mark_code(rounds::bit(place.marks, i)) {
+    for p in 0..c.count.places {
+        if row.at[p] != rounds::mark_code(rounds::bit(c.places[p].marks, i)) {
             return p;
         }
-        p = p + 1;
     }
-    p
+    c.count.places
 }
 
 // The first wrong mark: by sentence, then by place.
-pub fn wrong_mark(c: Case, t: Tables) -> Search
+pub fn wrong_mark(c: Case, t: Tables) -> Option<(PlaceNo, u8)>
     requires { (Sound c) × (t ≡ tables_of (items_of c)) × (Closed (items_of c)) }
     ensures { result ≡ told_mark (first_not (mark_right (items_of c) (start_of (items_of c))) (marks_of (items_of c))) }
 {
-    let off = first_off(c, t, 0);
-    let i = off.sentence;
-    if i < c.count.sentences {
-        let k = i as u8;
-        return Search::At(PlaceNo(wrong_in(c, k, off.row)), k);
-    }
-    Search::Nowhere
+    let off = first_off(c, t, 0)?;
+    let i = off.sentence as u8;
+    Some((PlaceNo(wrong_in(c, i, off.row)), i))
 }

@@ -1,9 +1,8 @@
 -- A counted loop cut in two (document 02, item 8): one like it of m rounds, and behind it one of the rounds that are left, entered by the back move.
-use Rattle.std.specs.Prelude.{◌≡◌, List, ◌++◌, ℕ, ◌+◌, ◌-◌, ◌≤◌, ◌<◌, length, take, drop, set}
+use Rattle.std.specs.Prelude.{◌≡◌, List, ◌++◌, ℕ, ◌+◌, ◌-◌, ◌≤◌, ◌<◌, length, take, drop, set, Some}
 use Rattle.kinds.specs.declared.Kind.TheVariants as kind
 use Rattle.items.specs.declared.LoopMark.{LoopMark}
 use Rattle.items.specs.declared.LoopMark.TheVariants as mark
-use Rattle.items.specs.declared.Ref.TheVariants as ref
 use Rattle.items.specs.declared.Place.{Place}
 use Rattle.items.specs.Lists.{Items, room_of, with_places}
 use Rattle.rules.specs.Rules.{mark_at}
@@ -12,7 +11,7 @@ use Rattle.meaning.specs.Rounds.{places_with}
 
 -- a place whose way in is move b
 abbrev pub place_by : ℕ → Place → Place
-place_by b q = record { state = q.state; way = ref.At b; marks = q.marks; mark = q.mark }
+place_by b q = record { state = q.state; way = Some b; marks = q.marks; mark = q.mark }
 
 -- places, the first of which is entered by move b
 unfoldable pub entered_by : ℕ → List Place → List Place

@@ -1,20 +1,19 @@
 -- What each answer of a judgement says of a case whose records are all taken, in the order of document 01. Never what a checker works out.
-use Rattle.std.specs.Prelude.{◌≡◌, ◌↔◌, ◌⊎◌, List, [], ◌∷◌, ◌++◌, map, Bool, true, false, cond, ℕ, suc, ◌+◌, ◌-◌, ◌<◌, pos, length, get_or}
+use Rattle.std.specs.Prelude.{◌≡◌, ◌↔◌, ◌⊎◌, List, [], ◌∷◌, ◌++◌, map, Bool, true, false, cond, ℕ, suc, ◌+◌, ◌-◌, ◌<◌, pos, length, get_or, Err, None, Ok, Some}
 use Rattle.laws.specs.All.{All, First, from, gather}
 use Rattle.kinds.specs.declared.Kind.TheVariants as kind
 use Rattle.counters.specs.Sum.{Valuation}
 use Rattle.items.specs.declared.LoopMark.{LoopMark}
 use Rattle.items.specs.declared.LoopMark.TheVariants as mark
-use Rattle.items.specs.declared.Ref.{Ref}
-use Rattle.items.specs.declared.Ref.TheVariants as ref
 use Rattle.items.specs.declared.Place.{Place}
 use Rattle.items.specs.Lists.{Items, no_item}
-use Rattle.answers.specs.declared.Judgement.{Judgement}
-use Rattle.answers.specs.declared.Judgement.TheVariants.{Accepted, Unfinished, WrongStart, Unconnected, GuardFails, WrongMark, RootUnmarked}
+use Rattle.answers.specs.declared.Rejection.TheVariants.{Unfinished, WrongStart, Unconnected, GuardFails, WrongMark, RootUnmarked}
 use Rattle.rules.specs.Rules.{Closed}
 use Rattle.rules.specs.Files.{item_count}
 use Rattle.meaning.specs.Run.{Moment, Way, here, stretch, spot, way_taken, move_no, move_by, counters_at, place_at, guard_at, guards_of, Meets}
 use Rattle.meaning.specs.Truth.{Trace, bit, True}
+use Rattle.items.specs.Items.{Ref}
+use Rattle.answers.specs.Answers.{Judgement}
 
 -- ---- the case
 
@@ -34,8 +33,8 @@ state_at x p = (place_at x.places p).state
 
 -- the way by the move into place p, where it names one
 abbrev pub way_in : ℕ → Ref → List Way
-way_in p ref.None = []
-way_in p (ref.At t) = record { place = p; back = false } ∷ []
+way_in p None = []
+way_in p (Some t) = record { place = p; back = false } ∷ []
 
 -- the way by the back move of the loop that place p begins
 abbrev pub way_back : ℕ → LoopMark → List Way
@@ -154,13 +153,13 @@ IsAccepted x θ = Labelled x θ × (marked x (root x) 0 ≡ true)
 
 -- what an answer says of a case: it is the first that applies
 abbrev pub Judged : Items → Valuation → Judgement → Type 0
-Judged x θ (Unfinished n) = (Finished x → ⊥) × (n ≡ item_count x)
-Judged x θ WrongStart = Finished x × (state_at x 0 ≡ 0 → ⊥)
-Judged x θ (Unconnected p t) =
-    Started x × ((w : Way) × First (Connects x) (λ v. Connects x v → ⊥) (ways_of x) w × (w.place ≡ p.0) × (move_no x.places w ≡ ref.At t))
-Judged x θ (GuardFails p g) =
+Judged x θ (Err (Unfinished n)) = (Finished x → ⊥) × (n ≡ item_count x)
+Judged x θ (Err WrongStart) = Finished x × (state_at x 0 ≡ 0 → ⊥)
+Judged x θ (Err (Unconnected p t)) =
+    Started x × ((w : Way) × First (Connects x) (λ v. Connects x v → ⊥) (ways_of x) w × (w.place ≡ p.0) × (move_no x.places w ≡ Some t))
+Judged x θ (Err (GuardFails p g)) =
     Connected x × ((t : Test) × First (Passes x θ) (Fails x θ) (tests_of x) t × (t.way.place ≡ p.0) × (t.guard ≡ g))
-Judged x θ (WrongMark p i) =
+Judged x θ (Err (WrongMark p i)) =
     Guarded x θ × ((k : Mark) × First (Right x θ) (Wrong x θ) (marks_of x) k × (k.place ≡ p.0) × (k.sentence ≡ i))
-Judged x θ (RootUnmarked r) = Labelled x θ × (marked x (root x) 0 ≡ false) × (r ≡ root x)
-Judged x θ Accepted = IsAccepted x θ
+Judged x θ (Err (RootUnmarked r)) = Labelled x θ × (marked x (root x) 0 ≡ false) × (r ≡ root x)
+Judged x θ (Ok tt) = IsAccepted x θ

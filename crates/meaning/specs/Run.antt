@@ -1,11 +1,9 @@
 -- The run of a plan: where it is at each moment, by which way it came there, and its counters. It doesn't ask for a closed plan.
 -- Document 01's words and the field's: a move is a transition, a place a state of the path schema, a moment a position on the run,
 -- the counters a valuation.
-use Rattle.std.specs.Prelude.{◌≡◌, List, [], ◌∷◌, ◌++◌, Bool, true, false, cond, ℕ, zero, suc, ◌+◌, ◌<◌, ltb, ℤ, pos, ◌+ℤ◌, ◌≤ℤ◌, get_or, length}
+use Rattle.std.specs.Prelude.{◌≡◌, List, [], ◌∷◌, ◌++◌, Bool, true, false, cond, ℕ, zero, suc, ◌+◌, ◌<◌, ltb, ℤ, pos, ◌+ℤ◌, ◌≤ℤ◌, get_or, length, None, Some}
 use Rattle.kinds.specs.declared.Kind.TheVariants as kind
 use Rattle.counters.specs.Sum.{Valuation, sum}
-use Rattle.items.specs.declared.Ref.{Ref}
-use Rattle.items.specs.declared.Ref.TheVariants as ref
 use Rattle.items.specs.declared.LoopMark.{LoopMark}
 use Rattle.items.specs.declared.LoopMark.TheVariants as mark
 use Rattle.items.specs.declared.Guard.{Guard}
@@ -13,6 +11,7 @@ use Rattle.items.specs.declared.Move.{Move}
 use Rattle.items.specs.declared.Place.{Place}
 use Rattle.items.specs.Lists.{Items, no_item}
 use Rattle.rules.specs.Rules.{mark_at, is_endless}
+use Rattle.items.specs.Items.{Ref}
 
 -- ---- where it is
 
@@ -76,9 +75,9 @@ way_taken ps m = record { place = here (spot ps (suc m)); back = (next ps (spot 
 
 -- the back move of a loop
 abbrev pub back_of : LoopMark → Ref
-back_of mark.None = ref.None
-back_of (mark.Counted l n b) = ref.At b
-back_of (mark.Endless l b) = ref.At b
+back_of mark.None = None
+back_of (mark.Counted l n b) = Some b
+back_of (mark.Endless l b) = Some b
 
 -- place p, and one without a mark where there is none
 abbrev pub place_at : List Place → ℕ → Place
@@ -90,8 +89,8 @@ move_no ps w = cond w.back (back_of (place_at ps w.place).mark) (place_at ps w.p
 
 -- the move with a number, and one that adds nothing where there is none
 unfoldable pub move_at : List Move → Ref → Move
-move_at ts ref.None = no_item kind.Move
-move_at ts (ref.At t) = get_or ts t (no_item kind.Move)
+move_at ts None = no_item kind.Move
+move_at ts (Some t) = get_or ts t (no_item kind.Move)
 
 -- the move of a way
 abbrev pub move_by : Items → Way → Move
@@ -120,8 +119,8 @@ guard_at gs g = get_or gs g (no_item kind.Guard)
 
 -- what a reference names, if anything
 abbrev pub named : Ref → List ℕ
-named ref.None = []
-named (ref.At n) = n ∷ []
+named None = []
+named (Some n) = n ∷ []
 
 -- the guards of a move, in order
 abbrev pub guards_of : Move → List ℕ

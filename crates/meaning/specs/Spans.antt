@@ -1,19 +1,18 @@
 -- The loops of a plan by their numbers, with how many rounds of one of them a case is accepted, and what each answer about them says (document 02, item 7).
 -- Never what a checker works out.
-use Rattle.std.specs.Prelude.{◌≡◌, List, [], ◌∷◌, Bool, true, false, cond, ℕ, ◌+◌, ◌-◌, ◌≤◌, ◌<◌, length, get_or}
+use Rattle.std.specs.Prelude.{◌≡◌, List, [], ◌∷◌, Bool, true, false, cond, ℕ, ◌+◌, ◌-◌, ◌≤◌, ◌<◌, length, get_or, Err, Ok}
 use Rattle.laws.specs.All.{from, gather}
 use Rattle.items.specs.declared.LoopMark.{LoopMark}
 use Rattle.items.specs.declared.LoopMark.TheVariants as mark
 use Rattle.items.specs.declared.Place.{Place}
 use Rattle.items.specs.Lists.{Items}
-use Rattle.answers.specs.declared.Setting.{Setting}
-use Rattle.answers.specs.declared.Setting.TheVariants as setting
-use Rattle.answers.specs.declared.Span.{Span}
-use Rattle.answers.specs.declared.Span.TheVariants as span
+use Rattle.answers.specs.declared.NotSet.TheVariants as not_set
+use Rattle.answers.specs.declared.NoSpan.TheVariants as no_span
 use Rattle.rules.specs.Rules.{mark_at}
 use Rattle.rules.specs.Files.{item_count}
 use Rattle.meaning.specs.Judged.{start_of, Finished, IsAccepted, Judged}
 use Rattle.meaning.specs.Rounds.{with_rounds}
+use Rattle.answers.specs.Answers.{Setting, Span}
 
 -- ---- loops by number
 
@@ -62,9 +61,9 @@ pub record IsSpan (x : Items) (p a b : ℕ) : Type 0 where
 -- what each answer for loop k says: the judgement's own where the case isn't accepted; it is, and loop k is absent or endless; or loop k is counted, and a and b
 -- are its least and its greatest rounds
 abbrev pub SpanSays : Items → ℕ → Span → Type 0
-SpanSays x k (span.Refused a) = (IsAccepted x (start_of x) → ⊥) × Judged x (start_of x) a
-SpanSays x k (span.NoLoop j) = (j ≡ k) × IsAccepted x (start_of x) × ((p n : ℕ) → IsCounted x.places k p n → ⊥)
-SpanSays x k (span.Between a b) = IsAccepted x (start_of x) × ((p : ℕ) × (n : ℕ) × IsCounted x.places k p n × IsSpan x p a b)
+SpanSays x k (Err (no_span.Refused a)) = (IsAccepted x (start_of x) → ⊥) × Judged x (start_of x) (Err a)
+SpanSays x k (Err (no_span.NoLoop j)) = (j ≡ k) × IsAccepted x (start_of x) × ((p n : ℕ) → IsCounted x.places k p n → ⊥)
+SpanSays x k (Ok (a, b)) = IsAccepted x (start_of x) × ((p : ℕ) × (n : ℕ) × IsCounted x.places k p n × IsSpan x p a b)
 
 -- ---- setting rounds
 
@@ -75,7 +74,7 @@ place_record x p = item_count x - length x.places + p
 -- what each answer to setting n rounds in loop k says: the case isn't finished; it is, and loop k is absent or endless; loop k is counted, and may not have so
 -- many rounds; or it may
 abbrev pub SettingSays : Items → ℕ → ℕ → Setting → Type 0
-SettingSays x k n (setting.Unfinished m) = (Finished x → ⊥) × (m ≡ item_count x)
-SettingSays x k n (setting.NoLoop j) = (j ≡ k) × Finished x × ((p m : ℕ) → IsCounted x.places k p m → ⊥)
-SettingSays x k n (setting.OutOfRange r) = Finished x × (MayHave n → ⊥) × ((p : ℕ) × (m : ℕ) × IsCounted x.places k p m × (r ≡ place_record x p))
-SettingSays x k n setting.Set = Finished x × MayHave n × ((p : ℕ) × (m : ℕ) × IsCounted x.places k p m)
+SettingSays x k n (Err (not_set.Unfinished m)) = (Finished x → ⊥) × (m ≡ item_count x)
+SettingSays x k n (Err (not_set.NoLoop j)) = (j ≡ k) × Finished x × ((p m : ℕ) → IsCounted x.places k p m → ⊥)
+SettingSays x k n (Err (not_set.OutOfRange r)) = Finished x × (MayHave n → ⊥) × ((p : ℕ) × (m : ℕ) × IsCounted x.places k p m × (r ≡ place_record x p))
+SettingSays x k n (Ok tt) = Finished x × MayHave n × ((p : ℕ) × (m : ℕ) × IsCounted x.places k p m)

@@ -1,9 +1,8 @@
 -- When a sentence (a formula of CLTL, 003) is true at a moment of a run. A proposition: nothing says that it is decided.
-use Rattle.std.specs.Prelude.{◌≡◌, ◌⊎◌, List, [], ◌∷◌, ◌++◌, Bool, true, cond, ℕ, zero, suc, ◌+◌, ◌<◌, ◌^◌, ◌/◌, ◌%◌, eqb, ℤ, pos, ◌+ℤ◌, ◌≤ℤ◌, get_or}
+use Rattle.std.specs.Prelude.{◌≡◌, ◌⊎◌, List, [], ◌∷◌, ◌++◌, Bool, true, cond, ℕ, zero, suc, ◌+◌, ◌<◌, ◌^◌, ◌/◌, ◌%◌, eqb, ℤ, pos, ◌+ℤ◌, ◌≤ℤ◌, get_or, None, Option, Some}
 use Rattle.kinds.specs.declared.Kind.TheVariants as kind
 use Rattle.counters.specs.Sum.{Valuation}
 use Rattle.items.specs.declared.Term.{Term}
-use Rattle.items.specs.declared.Term.TheVariants as term
 use Rattle.items.specs.declared.Form.{Form}
 use Rattle.items.specs.declared.Form.TheVariants as form
 use Rattle.items.specs.declared.Guard.{Guard}
@@ -51,9 +50,9 @@ pub record Until (Held Goal : Moment → Type 0) (bound : ℤ) (ts : List Counte
 -- ---- sentences
 
 -- a term of a sentence, if there is one, where Holds tells the truth of the sentences
-abbrev pub counted_terms : (ℕ → Moment → Type 0) → Term → List Counted
-counted_terms Holds term.None = []
-counted_terms Holds (term.Some c s) = record { coefficient = c; Counts = Holds s } ∷ []
+abbrev pub counted_terms : (ℕ → Moment → Type 0) → Option Term → List Counted
+counted_terms Holds None = []
+counted_terms Holds (Some c) = record { coefficient = c.coefficient; Counts = Holds c.sentence } ∷ []
 
 -- what a form says of moment i, where Holds tells the truth of the sentences that it refers to
 abbrev pub Says : List Guard → Trace → (ℕ → Moment → Type 0) → Form → Moment → Type 0

@@ -25,10 +25,9 @@ use Rattle.rules.specs.Rules.{IsA}
 use Rattle.standing.specs.declared.Loops.{Loops}
 use Rattle.standing.specs.Standing.{loops_after, record_answer, order_answer, room_answer, there_answer, place_answer, mark_answer, way_answer}
 use Rattle.collector.specs.declared.Case.{Case}
-use Rattle.collector.specs.declared.Result.{Result}
-use Rattle.collector.specs.declared.Collected.{Collected}
+use Rattle.collector.specs.declared.Taken.{Taken}
+use Rattle.collector.specs.Taking.{Collected, taken_as, taken_by, taken_of, collected_from}
 use Rattle.collector.specs.Cases.{one_more, with}
-use Rattle.collector.specs.Taking.{taken_as, taken_by, taken_of, collected_from}
 use Rattle.rules_laws.specs.Letters.{by_head}
 use Rattle.meaning_laws.specs.Around.{row_with}
 
@@ -38,7 +37,7 @@ use Rattle.meaning_laws.specs.Around.{row_with}
 abbrev Same : Case → Case → Type 0
 Same c d = (c.count ≡ d.count) × (c.loops ≡ d.loops)
 
-abbrev SameResult : Result → Result → Type 0
+abbrev SameResult : Taken → Taken → Type 0
 SameResult t u = (t.answer ≡ u.answer) × Same t.case u.case
 
 same_with : (c d : Case) → Same c d → (k : Kind) (r : List Field) → Same (with c k r) (with d k r)

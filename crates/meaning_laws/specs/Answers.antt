@@ -1,5 +1,5 @@
 -- The meaning leaves one answer, whose result is 0 exactly where the case is accepted; runs that show the same have the same truth. Assumes nothing.
-use Rattle.std.specs.Prelude.{◌≡◌, refl, ◌↔◌, List, [], ◌∷◌, true, ℕ, zero, suc, ◌≤◌, ◌<◌, get_or}
+use Rattle.std.specs.Prelude.{◌≡◌, refl, ◌↔◌, List, [], ◌∷◌, true, ℕ, zero, suc, ◌≤◌, ◌<◌, get_or, Err, Ok}
 use Rattle.std.proofs.Common.{sym, ◌∙◌, ap, ap₂, subst, ⊎_elim, true≢false, eq-or-lt_of_le, le_of_suc-le-suc, arith}
 use Rattle.std.proofs.Math.Path.{fun_ext}
 use Rattle.laws.specs.All.{All}
@@ -8,9 +8,8 @@ use Rattle.counters.specs.Sum.{Valuation}
 use Rattle.items.specs.declared.Guard.{Guard}
 use Rattle.items.specs.declared.Sentence.{Sentence}
 use Rattle.items.specs.Lists.{Items}
-use Rattle.answers.specs.declared.Judgement.{Judgement}
-use Rattle.answers.specs.declared.Judgement.TheVariants.{Accepted, Unfinished, WrongStart, Unconnected, GuardFails, WrongMark, RootUnmarked}
-use Rattle.answers.specs.Answers.{numbers_of}
+use Rattle.answers.specs.declared.Rejection.TheVariants.{Unfinished, WrongStart, Unconnected, GuardFails, WrongMark, RootUnmarked}
+use Rattle.answers.specs.Answers.{numbers_of, Judgement}
 use Rattle.meaning.specs.Run.{Moment, Way}
 use Rattle.meaning.specs.Truth.{Trace, True}
 use Rattle.meaning.specs.Judged.{state_at, ways_of, Connects, Test, tests_of, Passes, Fails, Mark, marks_of, marked, root, Right, Wrong, Finished, IsAccepted, Judged}
@@ -19,30 +18,30 @@ use Rattle.meaning.specs.Judged.{state_at, ways_of, Connects, Test, tests_of, Pa
 
 -- how many of the tests a case with this answer passes
 abbrev rank : Judgement → ℕ
-rank (Unfinished n) = 0
-rank WrongStart = 1
-rank (Unconnected p t) = 2
-rank (GuardFails p g) = 3
-rank (WrongMark p i) = 4
-rank (RootUnmarked r) = 5
-rank Accepted = 6
+rank (Err (Unfinished n)) = 0
+rank (Err WrongStart) = 1
+rank (Err (Unconnected p t)) = 2
+rank (Err (GuardFails p g)) = 3
+rank (Err (WrongMark p i)) = 4
+rank (Err (RootUnmarked r)) = 5
+rank (Ok tt) = 6
 
 -- the answer of a rank with these numbers
 abbrev ranked_answer : ℕ → ℕ → ℕ → Judgement
 ranked_answer k m n =
     get_or
-    (Unfinished m ∷ WrongStart ∷ Unconnected (record { 0 = m }) n ∷ GuardFails (record { 0 = m }) n ∷ WrongMark (record { 0 = m }) n ∷ RootUnmarked n ∷ [])
+    (Err (Unfinished m) ∷ Err WrongStart ∷ Err (Unconnected (record { 0 = m }) n) ∷ Err (GuardFails (record { 0 = m }) n) ∷ Err (WrongMark (record { 0 = m }) n) ∷ Err (RootUnmarked n) ∷ [])
     k
-    Accepted
+    (Ok tt)
 
 numbered : (a : Judgement) → ranked_answer (rank a) (numbers_of a).second (numbers_of a).third ≡ a
-numbered (Unfinished n) = refl
-numbered WrongStart = refl
-numbered (Unconnected p t) = refl
-numbered (GuardFails p g) = refl
-numbered (WrongMark p i) = refl
-numbered (RootUnmarked r) = refl
-numbered Accepted = refl
+numbered (Err (Unfinished n)) = refl
+numbered (Err WrongStart) = refl
+numbered (Err (Unconnected p t)) = refl
+numbered (Err (GuardFails p g)) = refl
+numbered (Err (WrongMark p i)) = refl
+numbered (Err (RootUnmarked r)) = refl
+numbered (Ok tt) = refl
 
 module _ (x : Items) (θ : Valuation) where
   -- ---- what excludes what
@@ -97,35 +96,35 @@ module _ (x : Items) (θ : Valuation) where
     only : (m n : ℕ) → Judged x θ (ranked_answer (rank a) m n) → ranked_answer (rank a) m n ≡ a
 
   says : (a : Judgement) → Judged x θ a → SaysFirst a
-  says (Unfinished n) j = record { passed = tt; stops = j.0; only = λ m k i. ap Unfinished (i.1 ∙ sym j.1) }
-  says WrongStart j = record { passed = j.0; stops = λ s. j.1 s.1; only = λ m k i. refl }
-  says (Unconnected p t) j =
+  says (Err (Unfinished n)) j = record { passed = tt; stops = j.0; only = λ m k i. ap (λ n. Err (Unfinished n)) (i.1 ∙ sym j.1) }
+  says (Err WrongStart) j = record { passed = j.0; stops = λ s. j.1 s.1; only = λ m k i. refl }
+  says (Err (Unconnected p t)) j =
       record {
         passed = j.0;
         stops = λ s. all_first not_both s.1 j.1.1;
         only = λ m k i.
             let e = first_one not_both i.1.1 j.1.1 in
-            ap₂ (λ q n. Unconnected (record { 0 = q }) n) (cc) (cc);
+            ap₂ (λ q n. Err (Unconnected (record { 0 = q }) n)) (cc) (cc);
       }
-  says (GuardFails p g) j =
+  says (Err (GuardFails p g)) j =
       record {
         passed = j.0;
         stops = λ s. all_first passes_or_fails s.1 j.1.1;
         only = λ m k i.
             let e = first_one passes_or_fails i.1.1 j.1.1 in
-            ap₂ (λ q n. GuardFails (record { 0 = q }) n) (cc) (cc);
+            ap₂ (λ q n. Err (GuardFails (record { 0 = q }) n)) (cc) (cc);
       }
-  says (WrongMark p r) j =
+  says (Err (WrongMark p r)) j =
       record {
         passed = j.0;
         stops = λ s. all_first right_or_wrong s.1 j.1.1;
         only = λ m k i.
             let e = first_one right_or_wrong i.1.1 j.1.1 in
-            ap₂ (λ q n. WrongMark (record { 0 = q }) n) (cc) (cc);
+            ap₂ (λ q n. Err (WrongMark (record { 0 = q }) n)) (cc) (cc);
       }
-  says (RootUnmarked r) j =
-      record { passed = j.0; stops = λ s. true≢false (sym s.1 ∙ j.1); only = λ m k i. ap RootUnmarked (i.2 ∙ sym j.2) }
-  says Accepted j = record { passed = j; stops = λ s. s.1; only = λ m k i. refl }
+  says (Err (RootUnmarked r)) j =
+      record { passed = j.0; stops = λ s. true≢false (sym s.1 ∙ j.1); only = λ m k i. ap (λ n. Err (RootUnmarked n)) (i.2 ∙ sym j.2) }
+  says (Ok tt) j = record { passed = j; stops = λ s. s.1; only = λ m k i. refl }
 
   no_later : {a b : Judgement} → SaysFirst a → SaysFirst b → rank a < rank b → ⊥
   no_later {a} {b} s t h = s.stops (fewer (suc (rank a)) (rank b) h t.passed)
@@ -141,16 +140,16 @@ module _ (x : Items) (θ : Valuation) where
 
   -- the result is 0 exactly where the case is accepted: every other answer excludes it
   pub zero_accepts : (a : Judgement) → Judged x θ a → ((numbers_of a).result ≡ 0) ↔ IsAccepted x θ
-  zero_accepts a j = (λ e. subst (Judged x θ) (zero_only a e) j, λ h. ap (λ b. (numbers_of b).result) (one_answer a Accepted j h))
+  zero_accepts a j = (λ e. subst (Judged x θ) (zero_only a e) j, λ h. ap (λ b. (numbers_of b).result) (one_answer a (Ok tt) j h))
     where
-      zero_only : (b : Judgement) → (numbers_of b).result ≡ 0 → b ≡ Accepted
-      zero_only (Unfinished n) e = absurd (omega arith)
-      zero_only WrongStart e = absurd (omega arith)
-      zero_only (Unconnected p t) e = absurd (omega arith)
-      zero_only (GuardFails p g) e = absurd (omega arith)
-      zero_only (WrongMark p i) e = absurd (omega arith)
-      zero_only (RootUnmarked r) e = absurd (omega arith)
-      zero_only Accepted e = refl
+      zero_only : (b : Judgement) → (numbers_of b).result ≡ 0 → b ≡ Ok tt
+      zero_only (Err (Unfinished n)) e = absurd (omega arith)
+      zero_only (Err WrongStart) e = absurd (omega arith)
+      zero_only (Err (Unconnected p t)) e = absurd (omega arith)
+      zero_only (Err (GuardFails p g)) e = absurd (omega arith)
+      zero_only (Err (WrongMark p i)) e = absurd (omega arith)
+      zero_only (Err (RootUnmarked r)) e = absurd (omega arith)
+      zero_only (Ok tt) e = refl
 
 -- runs that show the same propositions and counters have the same truth
 pub same_truth : (gs : List Guard) (fs : List Sentence) (t u : Trace)

@@ -1,6 +1,6 @@
 -- A file cut at the rounds field of one record: the records before it and after it are the same whatever is in that field, and so are the
 -- other fields of its record. Assumes nothing.
-use Rattle.std.specs.Prelude.{◌≡◌, refl, List, [], ◌∷◌, ◌++◌, false, cond, eqb, ltb, take, drop}
+use Rattle.std.specs.Prelude.{◌≡◌, refl, List, [], ◌∷◌, ◌++◌, false, cond, eqb, ltb, take, drop, Err}
 use Rattle.std.proofs.Common.{◌∙◌, sym, ap₂, append_assoc, arith, lit<, take-append-drop, get_or-drop, get_or-append-add, length-take-le, take_at, drop_at, le-ltb}
 use Rattle.std.proofs.Math.Path.{ap}
 use Prim.Native.Nat.{ℕ, zero, suc, ◌+◌, ◌*◌, ◌-◌, ◌≤◌, ◌<◌}
@@ -13,8 +13,7 @@ use Rattle.record.specs.declared.Field.{Field}
 use Rattle.record.specs.Spelling.{content_of}
 use Rattle.record.specs.Layout.{fields, width, record_length, field_at, record_of, line_feed, cut_from, cut}
 use Rattle.kinds.specs.Kinds.{kind_of}
-use Rattle.answers.specs.declared.Answer.TheVariants.{NotARecord, NoLineFeed}
-use Rattle.checks.specs.declared.Head.TheVariants.{Refused}
+use Rattle.answers.specs.declared.Refusal.TheVariants.{NotARecord, NoLineFeed}
 use Rattle.checks.specs.Input.{named_head, ended_head, head_of}
 use Rattle.meaning.specs.Files.{rounds_at}
 
@@ -104,7 +103,7 @@ module _ (head tail : List ℕ) where
 
     -- its length, its last byte and its letter are the same for all
     head_is : head_of (head ++ (f ++ tail)) ≡ cond (eqb (rounds_at + (width + length tail)) record_length)
-        (cond (eqb (get_or tail (rest - 1) 0) line_feed) (named_head (kind_of (get_or head 0 0))) (Refused NoLineFeed)) (Refused NotARecord)
+        (cond (eqb (get_or tail (rest - 1) 0) line_feed) (named_head (kind_of (get_or head 0 0))) (Err NoLineFeed)) (Err NotARecord)
     unfolding head_of ended_head
     head_is =
         let n : length (head ++ (f ++ tail)) ≡ rounds_at + (width + length tail) = omega (arith, length-append head (f ++ tail), length-append f tail) in

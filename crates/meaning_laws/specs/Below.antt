@@ -1,11 +1,10 @@
 -- The truth of the sentences that a sentence refers to, and until read off their marks. Assumes nothing.
-use Rattle.std.specs.Prelude.{◌≡◌, refl, ◌↔◌, List, [], ◌∷◌, ◌++◌, true, ℕ, zero, suc, ◌<◌, ℤ}
+use Rattle.std.specs.Prelude.{◌≡◌, refl, ◌↔◌, List, [], ◌∷◌, ◌++◌, true, ℕ, zero, suc, ◌<◌, ℤ, None, Option, Some}
 use Rattle.std.proofs.Common.{ap, arith, eq-eqb, ne_eqb}
 use Rattle.std.proofs.Math.Path.{fun_ext}
 use Rattle.std.proofs.Math.Decide.{dec_lt}
 use Rattle.counters.specs.Sum.{Valuation}
 use Rattle.items.specs.declared.Term.{Term}
-use Rattle.items.specs.declared.Term.TheVariants as term
 use Rattle.items.specs.declared.Form.{Form}
 use Rattle.items.specs.declared.Form.TheVariants as form
 use Rattle.items.specs.declared.Guard.{Guard}
@@ -29,9 +28,9 @@ below gs fs t (suc n) j m h =
 
 -- what a form says is the same where the truth of the sentences below i is, and it refers to no others
 module _ (gs : List Guard) (t : Trace) (i : ℕ) {H K : ℕ → Moment → Type 0} (same : (j : ℕ) → j < i → (m : Moment) → H j m ≡ K j m) where
-  same_terms : (u : Term) → TermRefers i u → counted_terms H u ≡ counted_terms K u
-  same_terms term.None h = refl
-  same_terms (term.Some c s) h = λ k. record { coefficient = c; Counts = fun_ext (same s h) k } ∷ []
+  same_terms : (u : Option Term) → TermRefers i u → counted_terms H u ≡ counted_terms K u
+  same_terms None h = refl
+  same_terms (Some c) h = λ k. record { coefficient = c.coefficient; Counts = fun_ext (same c.sentence h) k } ∷ []
 
   pub same_says : (f : Form) → Refers i f → (m : Moment) → Says gs t H f m ≡ Says gs t K f m
   same_says form.True r m = refl
@@ -55,7 +54,7 @@ module _ (x : Items) (θ : Valuation) (i : ℕ) where
   pub says_below : (j : ℕ) → j < i → (m : Moment) → SaysBelow x θ i j m ≡ TrueAt x θ j m
   says_below j h m = below x.guards x.sentences (trace_of x θ) i j m h
 
-  pub until_labels : (a b : ℕ) (z : ℤ) (t u : Term) → Refers i (form.Until a b z t u) → RightBelow x θ i → (m : Moment) →
+  pub until_labels : (a b : ℕ) (z : ℤ) (t u : Option Term) → Refers i (form.Until a b z t u) → RightBelow x θ i → (m : Moment) →
       Until (SaysBelow x θ i a) (SaysBelow x θ i b) z (counted_terms (SaysBelow x θ i) t ++ counted_terms (SaysBelow x θ i) u) m
       ↔ Gets (λ k. label_of (marked x) a b t u (here (spot x.places k))) z m
   until_labels a b z t u r h m =

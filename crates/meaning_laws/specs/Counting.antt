@@ -1,5 +1,5 @@
 -- Counting until over labels: what each moment is, as the marks tell. Assumes nothing.
-use Rattle.std.specs.Prelude.{◌≡◌, ◌↔◌, ◌⊎◌, List, ◌++◌, Bool, true, false, cond, pos, negsuc, neg_ℤ, ◌≤ℤ◌}
+use Rattle.std.specs.Prelude.{◌≡◌, ◌↔◌, ◌⊎◌, List, ◌++◌, Bool, true, false, cond, pos, negsuc, neg_ℤ, ◌≤ℤ◌, None, Option, Some}
 use Rattle.std.proofs.Math.Path.{refl, sym, ap₂}
 use Rattle.std.proofs.Common.{◌∙◌, ap, inl, inr, ⊎_elim, add_assoc, add-suc, add-zero, suc-add, zero-add}
 use Rattle.std.proofs.Math.Logic.Iff
@@ -12,7 +12,6 @@ use Rattle.std.proofs.Math.IntN.{ℤ, ◌+ℤ◌, +ℤ_assoc, +ℤ_idl, +ℤ_idr
 use Rattle.laws.specs.Order.{up, down}
 use Rattle.laws.specs.Arithmetic.{le_out, le_in, le_or, add_rel, neg_rel}
 use Rattle.items.specs.declared.Term.{Term}
-use Rattle.items.specs.declared.Term.TheVariants as term
 use Rattle.meaning.specs.Run.{Moment}
 use Rattle.meaning.specs.Truth.{Counted, Adds, Sum, Until, counted_terms}
 use Rattle.verdict.specs.Labels.{Label, worth, gain_of}
@@ -261,12 +260,12 @@ adds_one c w z false told adds = (
 
 -- mark tells of each sentence below i whether it is true at m, and the terms name no other
 module _ (True : ℕ → Moment → Type 0) (mark : ℕ → Bool) (m : Moment) (i : ℕ) (told : (s : ℕ) → s < i → (mark s ≡ true) ↔ True s m) where
-  adds_worth : (t : Term) → TermRefers i t → (z : ℤ) → Adds (counted_terms True t) m z ↔ (z ≡ worth mark t)
+  adds_worth : (t : Option Term) → TermRefers i t → (z : ℤ) → Adds (counted_terms True t) m z ↔ (z ≡ worth mark t)
   unfolding Adds
-  adds_worth term.None p z = Iff.rfl
-  adds_worth (term.Some c s) p z = rw +ℤ_idr at (adds_one c (pos 0) z (mark s) (told s p) (λ y. Iff.rfl))
+  adds_worth None p z = Iff.rfl
+  adds_worth (Some c) p z = rw +ℤ_idr at (adds_one c.coefficient (pos 0) z (mark c.sentence) (told c.sentence p) (λ y. Iff.rfl))
 
-  pub adds_gain : (t u : Term) → TermRefers i t → TermRefers i u → (z : ℤ) → Adds (counted_terms True t ++ counted_terms True u) m z ↔ (z ≡ gain_of mark t u)
+  pub adds_gain : (t u : Option Term) → TermRefers i t → TermRefers i u → (z : ℤ) → Adds (counted_terms True t ++ counted_terms True u) m z ↔ (z ≡ gain_of mark t u)
   unfolding Adds gain_of
-  adds_gain term.None u p q z = rw +ℤ_idl (adds_worth u q z)
-  adds_gain (term.Some c s) u p q z = adds_one c (worth mark u) z (mark s) (told s p) (adds_worth u q)
+  adds_gain None u p q z = rw +ℤ_idl (adds_worth u q z)
+  adds_gain (Some c) u p q z = adds_one c.coefficient (worth mark u) z (mark c.sentence) (told c.sentence p) (adds_worth u q)

@@ -1,5 +1,5 @@
 -- Every case with the invariant has what the laws of a run need of it. Assumes nothing.
-use Rattle.std.specs.Prelude.{◌≡◌, List, [], ◌∷◌, ◌++◌, map, Bool, true, false, ℕ, zero, suc, ◌+◌, ◌≤◌, ◌<◌, ltb, ℤ, pos, neg_ℤ, length, get_or, replicate, drop}
+use Rattle.std.specs.Prelude.{◌≡◌, List, [], ◌∷◌, ◌++◌, map, Bool, true, false, ℕ, zero, suc, ◌+◌, ◌≤◌, ◌<◌, ltb, ℤ, pos, neg_ℤ, length, get_or, replicate, drop, None, Option, Some}
 use Rattle.std.proofs.Math.Path.{refl, subst}
 use Rattle.std.proofs.Common.{sym, lit≤}
 use native.Mathlib.Omega.{arith}
@@ -29,10 +29,7 @@ use Rattle.table.specs.declared.Rule.{Rule}
 use Rattle.table.specs.declared.Rule.TheVariants as rule
 use Rattle.table.specs.Sorts.{range_of, from_to}
 use Rattle.table.specs.Table.{needed_if, weights_row, guard_row, move_row, in_filled, rule_at, shape_of}
-use Rattle.items.specs.declared.Ref.{Ref}
-use Rattle.items.specs.declared.Ref.TheVariants as ref
 use Rattle.items.specs.declared.Term.{Term}
-use Rattle.items.specs.declared.Term.TheVariants as term
 use Rattle.items.specs.declared.Form.{Form}
 use Rattle.items.specs.declared.Form.TheVariants as form
 use Rattle.items.specs.declared.LoopMark.{LoopMark}
@@ -41,7 +38,7 @@ use Rattle.items.specs.declared.Guard.{Guard}
 use Rattle.items.specs.declared.Move.{Move}
 use Rattle.items.specs.declared.Sentence.{Sentence}
 use Rattle.items.specs.declared.Place.{Place}
-use Rattle.items.specs.Items.{Item, item_of, row_of, integer, reference, weights_of, guard_of, move_of, sentence_of, place_of, per_counter}
+use Rattle.items.specs.Items.{Item, item_of, row_of, integer, reference, weights_of, guard_of, move_of, sentence_of, place_of, per_counter, Ref}
 use Rattle.items.specs.Lists.{Items, list_of, counts_of, room_of, no_item}
 use Rattle.checks.specs.Faults.{beyond, outside, at_least, not_there}
 use Rattle.rules.specs.Rules.{mark_at, length_of}
@@ -101,8 +98,8 @@ abbrev Names : ℕ → Ref → Type 0
 Names n r = All (λ t. t < n) (named r)
 
 names : (n : ℕ) (r : Ref) → at_least n (reference r).content ≡ false → Names n r
-names n ref.None e = none
-names n (ref.At t) e = also (leb-false n t e) none
+names n None e = none
+names n (Some t) e = also (leb-false n t e) none
 
 -- needed or not
 either : (n : Counts) (b : Bool) (k : Kind) (c : Content) → not_there n (needed_if b (Reference k)) c ≡ false → at_least (count_of n k) c ≡ false
@@ -166,13 +163,13 @@ module _ (n : Counts) where
             (drop (2 + counters) (move_row counters (in_filled (shape kind.Move (row_of kind.Move m)).filled))) (drop (2 + counters) (row_of kind.Move m)) (λ j. (met f (suc (suc (suc j)))).ranged),
       )
 
-  terms_have : (a b : ℕ) (z : ℤ) (u v : Term) → Held n kind.Sentence (row_of kind.Sentence (record { form = form.Until a b z u v })) →
+  terms_have : (a b : ℕ) (z : ℤ) (u v : Option Term) → Held n kind.Sentence (row_of kind.Sentence (record { form = form.Until a b z u v })) →
       TermRefers n.sentences u × TermRefers n.sentences v
   unfolding row_of rule_at shape_of
-  terms_have a b z term.None term.None t = (tt, tt)
-  terms_have a b z term.None (term.Some c s) t = (tt, leb-false n.sentences s (t 8))
-  terms_have a b z (term.Some c s) term.None t = (leb-false n.sentences s (t 6), tt)
-  terms_have a b z (term.Some c s) (term.Some d r) t = (leb-false n.sentences s (t 6), leb-false n.sentences r (t 8))
+  terms_have a b z None None t = (tt, tt)
+  terms_have a b z None (Some c) t = (tt, leb-false n.sentences c.sentence (t 8))
+  terms_have a b z (Some c) None t = (leb-false n.sentences c.sentence (t 6), tt)
+  terms_have a b z (Some c) (Some d) t = (leb-false n.sentences c.sentence (t 6), leb-false n.sentences d.sentence (t 8))
 
   form_has : (f : Form) → Held n kind.Sentence (row_of kind.Sentence (record { form = f })) → Refers n.sentences f
   unfolding row_of rule_at shape_of
@@ -217,14 +214,14 @@ has_places n mark.None h = omega arith
 has_places n (mark.Counted l r b) h = h.0
 has_places n (mark.Endless l b) h = h.0
 
-has_back : (n t : ℕ) (m : LoopMark) → MarkHas n m → back_of m ≡ ref.At t → t < n
+has_back : (n t : ℕ) (m : LoopMark) → MarkHas n m → back_of m ≡ Some t → t < n
 has_back n t mark.None h e = let z : ◌≡◌ {A = ℕ} 0 1 = cc in absurd (omega arith)
 has_back n t (mark.Counted l r b) h e = let q : b ≡ t = cc in omega (arith, h.1)
 has_back n t (mark.Endless l b) h e = let q : b ≡ t = cc in omega (arith, h.1)
 
-has_way : (n : ℕ) (r : Ref) → Names n r → (r ≡ ref.None → ⊥) → (t : ℕ) × (r ≡ ref.At t) × (t < n)
-has_way n ref.None a h = absurd (h refl)
-has_way n (ref.At t) (also l a) h = (t, refl, l)
+has_way : (n : ℕ) (r : Ref) → Names n r → (r ≡ None → ⊥) → (t : ℕ) × (r ≡ Some t) × (t < n)
+has_way n None a h = absurd (h refl)
+has_way n (Some t) (also l a) h = (t, refl, l)
 
 module _ (c : Case) (s : Sound c) where
   abbrev x : Items
@@ -258,8 +255,8 @@ module _ (c : Case) (s : Sound c) where
 
   adds : (t : Ref) → All (Within 9999) (move_at x.moves t).updates.at
   unfolding move_at
-  adds ref.None = zeros_within 9999 counters refl
-  adds (ref.At t) =
+  adds None = zeros_within 9999 counters refl
+  adds (Some t) =
       by_end (λ (m : Move). All (Within 9999) m.updates.at) x.moves (no_item kind.Move) t (λ h. (move_held t h).1) (zeros_within 9999 counters refl)
 
   pub facts : Facts (items_of c)
@@ -286,7 +283,7 @@ module _ (c : Case) (s : Sound c) where
             λ p h. ends p (room_of kind.Place) (mark_at x.places p) (omega (arith, counted c s kind.Place, s.room kind.Place)) (s.loops.within p h);
         rounds = λ p l n b e. let h : MarkHas (length x.moves) (mark.Counted l n b) = subst (MarkHas _) e (marks p) in (h.2, h.3);
         start =
-            by_end (λ (p : Place). p.way ≡ ref.None) x.places (no_item kind.Place) 0
+            by_end (λ (p : Place). p.way ≡ None) x.places (no_item kind.Place) 0
             (λ h. (s.ways 0 (omega (arith, counted c s kind.Place))).0 refl) refl;
         refers = held kind.Sentence SentenceHas (λ n r f t. form_has n (sentence_of r).form t);
         weights = by_end StartHas x.weights (no_item kind.Weights) 0 (weights_held 0) (refl, zeros_within most_start counters refl);

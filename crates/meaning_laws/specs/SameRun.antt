@@ -1,6 +1,6 @@
 -- Two plans of one system whose runs go, moment by moment, by the same moves through the same states: they have the same counters and the same truth. Where they
 -- show the same marks too, and their moves connect in the one where they do in the other, the one is accepted where the other is. Assumes nothing.
-use Rattle.std.specs.Prelude.{◌≡◌, ◌↔◌, List, Bool, true, false, ◌+ℤ◌, length, get_or}
+use Rattle.std.specs.Prelude.{◌≡◌, ◌↔◌, List, Bool, true, false, ◌+ℤ◌, length, get_or, None, Some}
 use Rattle.std.proofs.Math.Path.{refl, sym, ap, ap₂, subst, fun_ext}
 use Rattle.std.proofs.Common.{◌∙◌, ⊎_elim, arith}
 use mathlib.Core.List.Memᴰ
@@ -11,8 +11,6 @@ use Rattle.kinds.specs.declared.Kind.TheVariants as kind
 use Rattle.counters.specs.Sum.{Valuation}
 use Rattle.items.specs.declared.LoopMark.{LoopMark}
 use Rattle.items.specs.declared.LoopMark.TheVariants as mark
-use Rattle.items.specs.declared.Ref.{Ref}
-use Rattle.items.specs.declared.Ref.TheVariants as ref
 use Rattle.items.specs.declared.Move.{Move}
 use Rattle.items.specs.declared.Place.{Place}
 use Rattle.items.specs.Lists.{Items, no_item, with_places}
@@ -24,6 +22,7 @@ use Rattle.meaning_laws.specs.Walk.{spot_at}
 use Rattle.meaning_laws.specs.Stays.{in_plan, way_listed}
 use Rattle.meaning_laws.specs.Answers.{same_truth}
 use Rattle.meaning_laws.specs.Second.{means}
+use Rattle.items.specs.Items.{Ref}
 
 -- ---- runs
 
@@ -74,18 +73,18 @@ module _ (x : Items) {qs : List Place} (e : SameRun x.places qs) (θ : Valuation
 record IsInto (ps : List Place) (q : ℕ) (w : Way) : Type 0 where
   place : w.place ≡ q
   number : ℕ
-  named : move_no ps w ≡ ref.At number
+  named : move_no ps w ≡ Some number
 
 is_into : (ps : List Place) (q : ℕ) (w : Way) → Has (ways_into ps q) w → IsInto ps q w
 is_into ps q w h =
     ⊎_elim (enters (place_at ps q).way refl) (returns (place_at ps q).mark refl) (Memᴰ.append_cases (way_in q (place_at ps q).way) h)
   where
-    this : (b : Bool) (t : ℕ) → w ≡ record { place = q; back = b } → move_no ps (record { place = q; back = b }) ≡ ref.At t → IsInto ps q w
+    this : (b : Bool) (t : ℕ) → w ≡ record { place = q; back = b } → move_no ps (record { place = q; back = b }) ≡ Some t → IsInto ps q w
     this b t e d = record { place = ap (λ (v : Way). v.place) e; number = t; named = ap (move_no ps) e ∙ d }
 
     enters : (r : Ref) → (place_at ps q).way ≡ r → Has (way_in q r) w → IsInto ps q w
-    enters ref.None e m = absurd (Memᴰ.not-nil m)
-    enters (ref.At t) e m = this false t (Memᴰ.eq_of_singleton m) e
+    enters None e m = absurd (Memᴰ.not-nil m)
+    enters (Some t) e m = this false t (Memᴰ.eq_of_singleton m) e
 
     returns : (k : LoopMark) → (place_at ps q).mark ≡ k → Has (way_back q k) w → IsInto ps q w
     returns mark.None e m = absurd (Memᴰ.not-nil m)
@@ -93,7 +92,7 @@ is_into ps q w h =
     returns (mark.Endless l b) e m = this true b (Memᴰ.eq_of_singleton m) (ap back_of e)
 
 -- all ways of a plan: those that name a move
-pub all_ways : {P : Way → Type 0} (x : Items) → All P (ways_of x) ↔ ((w : Way) (t : ℕ) → w.place < length x.places → move_no x.places w ≡ ref.At t → P w)
+pub all_ways : {P : Way → Type 0} (x : Items) → All P (ways_of x) ↔ ((w : Way) (t : ℕ) → w.place < length x.places → move_no x.places w ≡ Some t → P w)
 all_ways x =
     let ps = x.places in (
       λ a w t h e. all_has a (way_listed x w t h e),

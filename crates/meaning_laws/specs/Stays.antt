@@ -1,5 +1,5 @@
 -- The run of a closed plan stays in the plan, and each way that it takes is one of the plan's, from the place where it was. Assumes nothing.
-use Rattle.std.specs.Prelude.{◌≡◌, refl, List, Bool, ltb}
+use Rattle.std.specs.Prelude.{◌≡◌, refl, List, Bool, ltb, None, Some}
 use Rattle.std.proofs.Common.{subst, true≢false, eq-or-lt_of_le}
 use Rattle.std.proofs.Math.Logic.{⊎_elim}
 use mathlib.Core.List.Memᴰ
@@ -15,8 +15,6 @@ use Rattle.laws.specs.Tests.{cond_by}
 use Rattle.laws.specs.Members.{Has, has_below, has_gather}
 use Rattle.items.specs.declared.LoopMark.{LoopMark}
 use Rattle.items.specs.declared.LoopMark.TheVariants as mark
-use Rattle.items.specs.declared.Ref.{Ref}
-use Rattle.items.specs.declared.Ref.TheVariants as ref
 use Rattle.items.specs.declared.Place.{Place}
 use Rattle.items.specs.Lists.{Items}
 use Rattle.rules.specs.Rules.{mark_at, Closed}
@@ -24,6 +22,7 @@ use Rattle.meaning.specs.Run.{Moment, Spot, Step, Way, here, stretch, goes_again
 use Rattle.meaning.specs.Judged.{place_before, ways_of, ways_into, way_in, way_back}
 use Rattle.meaning_laws.specs.Facts.{Laid, Resolved}
 use Rattle.meaning_laws.specs.Walk.{endless_is}
+use Rattle.items.specs.Items.{Ref}
 
 -- ---- a step
 
@@ -134,34 +133,34 @@ module _ (x : Items) (laid : Laid x.places) where
 pub record IsWay (x : Items) (w : Way) : Type 0 where
   pub listed : Has (ways_of x) w
   pub number : ℕ
-  pub named : move_no x.places w ≡ ref.At number
+  pub named : move_no x.places w ≡ Some number
   pub there : number < length x.moves
 
 -- a way that names a move is one of the plan's
-way_into : (ps : List Place) (w : Way) (t : ℕ) → move_no ps w ≡ ref.At t → Has (ways_into ps w.place) w
+way_into : (ps : List Place) (w : Way) (t : ℕ) → move_no ps w ≡ Some t → Has (ways_into ps w.place) w
 way_into ps w t = by w.back
   where
     p : ℕ
     p = w.place
 
-    enters : (r : Ref) → r ≡ ref.At t → Has (way_in p r) (record { place = p; back = false })
-    enters ref.None e = let z : ◌≡◌ {A = ℕ} 0 1 = cc in absurd (omega arith)
-    enters (ref.At s) e = Memᴰ.head refl
+    enters : (r : Ref) → r ≡ Some t → Has (way_in p r) (record { place = p; back = false })
+    enters None e = let z : ◌≡◌ {A = ℕ} 0 1 = cc in absurd (omega arith)
+    enters (Some s) e = Memᴰ.head refl
 
-    returns : (k : LoopMark) → back_of k ≡ ref.At t → Has (way_back p k) (record { place = p; back = true })
+    returns : (k : LoopMark) → back_of k ≡ Some t → Has (way_back p k) (record { place = p; back = true })
     returns mark.None e = let z : ◌≡◌ {A = ℕ} 0 1 = cc in absurd (omega arith)
     returns (mark.Counted l n b) e = Memᴰ.head refl
     returns (mark.Endless l b) e = Memᴰ.head refl
 
-    by : (b : Bool) → move_no ps (record { place = p; back = b }) ≡ ref.At t → Has (ways_into ps p) (record { place = p; back = b })
+    by : (b : Bool) → move_no ps (record { place = p; back = b }) ≡ Some t → Has (ways_into ps p) (record { place = p; back = b })
     by false e = Memᴰ.append_left (way_back p (place_at ps p).mark) (enters (place_at ps p).way e)
     by true e = Memᴰ.append_right (way_in p (place_at ps p).way) (returns (place_at ps p).mark e)
 
-pub way_listed : (x : Items) (w : Way) (t : ℕ) → w.place < length x.places → move_no x.places w ≡ ref.At t → Has (ways_of x) w
+pub way_listed : (x : Items) (w : Way) (t : ℕ) → w.place < length x.places → move_no x.places w ≡ Some t → Has (ways_of x) w
 way_listed x w t h e = has_gather (ways_into x.places) ((has_below (length x.places) w.place).1 h) (way_into x.places w t e)
 
 -- a stretch that is gone through once more has a back move
-back_named : (k : LoopMark) (r : ℕ) → goes_again k r ≡ true → (b : ℕ) × (back_of k ≡ ref.At b)
+back_named : (k : LoopMark) (r : ℕ) → goes_again k r ≡ true → (b : ℕ) × (back_of k ≡ Some b)
 back_named mark.None r e = absurd (false≢true e)
 back_named (mark.Counted l n b) r e = (b, refl)
 back_named (mark.Endless l b) r e = (b, refl)

@@ -14,8 +14,7 @@ use Rattle.items.specs.declared.LoopMark.TheVariants as mark
 use Rattle.items.specs.declared.Guard.{Guard}
 use Rattle.items.specs.declared.Sentence.{Sentence}
 use Rattle.items.specs.Lists.{Items, no_item}
-use Rattle.answers.specs.declared.Judgement.{Judgement}
-use Rattle.answers.specs.Answers.{numbers_of}
+use Rattle.answers.specs.Answers.{numbers_of, Judgement}
 use Rattle.rules.specs.Rules.{mark_at, Closed}
 use Rattle.collector.specs.declared.Case.{Case}
 use Rattle.collector.specs.Cases.{items_of}

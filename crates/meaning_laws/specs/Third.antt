@@ -1,6 +1,6 @@
 -- Demand 3 of the meaning, for cases: a case with b rounds in one counted loop is accepted where those with a and with c rounds are, a ≤ b ≤ c.
 -- Assumes nothing.
-use Rattle.std.specs.Prelude.{◌≡◌, ◌↔◌, List, ◌++◌, true, ℤ, pos, neg_ℤ, ◌≤ℤ◌, length, get_or}
+use Rattle.std.specs.Prelude.{◌≡◌, ◌↔◌, List, ◌++◌, true, ℤ, pos, neg_ℤ, ◌≤ℤ◌, length, get_or, Option}
 use Rattle.std.proofs.Math.Path.{refl, ap, ap₂}
 use Rattle.std.proofs.Common.{sym, ◌∙◌, subst, inl, inr, ⊎_elim}
 use Rattle.std.proofs.Math.Logic.Iff
@@ -229,7 +229,7 @@ module _ (x : Items) (f : Facts x) (s l n back : ℕ) (held : s < length x.place
     right_below : (k i : ℕ) → ((j : ℕ) → j < i → RightIn k j) → RightBelow (X k) θ i
     right_below k i h j g m = subst (λ f. (f j (here (spot (P k) m)) ≡ true) ↔ TrueAt (X k) θ j m) (sym (same_marked x s (suc k))) (h j g m)
 
-    until_told : (k i u v : ℕ) (z : ℤ) (t w : Term) → Refers i (form.Until u v z t w) → ((j : ℕ) → j < i → RightIn k j) → (m : Moment) →
+    until_told : (k i u v : ℕ) (z : ℤ) (t w : Option Term) → Refers i (form.Until u v z t w) → ((j : ℕ) → j < i → RightIn k j) → (m : Moment) →
         Until (SaysBelow (X k) θ i u) (SaysBelow (X k) θ i v) z (counted_terms (SaysBelow (X k) θ i) t ++ counted_terms (SaysBelow (X k) θ i) w) m
         ↔ Gets (labels P r (label_of (marked x) u v t w) k) z m
     until_told k i u v z t w h g m =

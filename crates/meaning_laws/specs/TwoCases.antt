@@ -1,7 +1,7 @@
 -- Two cases, each from a start of its own. Where each sentence of the one has the form of its like in the other, of parts that are alike and a guard that is met
 -- alike, it is true where its like is. Where the marks are alike too, and ways and tests of the one have theirs in the other, it is accepted where the other is.
 -- Assumes nothing.
-use Rattle.std.specs.Prelude.{◌≡◌, refl, ◌↔◌, List, [], ◌∷◌, ◌++◌, true, ℕ, zero, suc, ◌+◌, ◌≤◌, ◌<◌, ℤ, length, get_or}
+use Rattle.std.specs.Prelude.{◌≡◌, refl, ◌↔◌, List, [], ◌∷◌, ◌++◌, true, ℕ, zero, suc, ◌+◌, ◌≤◌, ◌<◌, ℤ, length, get_or, None, Option, Some}
 use Rattle.std.proofs.Common.{sym, ◌∙◌, ap, subst, inl, inr, ⊎_elim, arith, ne_eqb}
 use Rattle.std.proofs.Math.Logic.Iff
 use Rattle.std.proofs.Math.Decide.{dec_lt}
@@ -10,7 +10,6 @@ use Rattle.laws.specs.Members.{Has, all_has, has_all}
 use Rattle.kinds.specs.declared.Kind.TheVariants as kind
 use Rattle.counters.specs.Sum.{Valuation}
 use Rattle.items.specs.declared.Term.{Term}
-use Rattle.items.specs.declared.Term.TheVariants as term
 use Rattle.items.specs.declared.Form.{Form}
 use Rattle.items.specs.declared.Form.TheVariants as form
 use Rattle.items.specs.Lists.{Items, no_item}
@@ -25,9 +24,9 @@ use Rattle.meaning_laws.specs.Below.{SaysBelow, says_below}
 -- ---- forms that say the same
 
 -- two terms, of sentences that are alike
-pub data SameTerm (Like : ℕ → ℕ → Type 0) : Term → Term → Type 0 where
-  none : SameTerm Like term.None term.None
-  some : {z : ℤ} {a b : ℕ} → Like a b → SameTerm Like (term.Some z a) (term.Some z b)
+pub data SameTerm (Like : ℕ → ℕ → Type 0) : Option Term → Option Term → Type 0 where
+  none : SameTerm Like None None
+  some : {z : ℤ} {a b : ℕ} → Like a b → SameTerm Like (Some (record { coefficient = z; sentence = a })) (Some (record { coefficient = z; sentence = b }))
 
 -- two forms, of sentences that are alike and guards that are met alike
 pub data SameForm (Like Met : ℕ → ℕ → Type 0) : Form → Form → Type 0 where
@@ -37,11 +36,11 @@ pub data SameForm (Like Met : ℕ → ℕ → Type 0) : Form → Form → Type 0
   and : {a b c d : ℕ} → Like a c → Like b d → SameForm Like Met (form.And a b) (form.And c d)
   not : {a b : ℕ} → Like a b → SameForm Like Met (form.Not a) (form.Not b)
   next : {a b : ℕ} → Like a b → SameForm Like Met (form.Next a) (form.Next b)
-  until : {a b c d : ℕ} {z : ℤ} {t u v w : Term} → Like a c → Like b d → SameTerm Like t v → SameTerm Like u w →
+  until : {a b c d : ℕ} {z : ℤ} {t u v w : Option Term} → Like a c → Like b d → SameTerm Like t v → SameTerm Like u w →
       SameForm Like Met (form.Until a b z t u) (form.Until c d z v w)
 
 module _ {Like Like' : ℕ → ℕ → Type 0} (back : (a b : ℕ) → Like a b → Like' b a) where
-  term_back : {t u : Term} → SameTerm Like t u → SameTerm Like' u t
+  term_back : {t u : Option Term} → SameTerm Like t u → SameTerm Like' u t
   term_back none = none
   term_back (some {a = a} {b = b} l) = some (back a b l)
 
@@ -65,9 +64,9 @@ form_self (form.Not a) f = not refl
 form_self (form.Next a) f = next refl
 form_self (form.Until a b z t u) f = until refl refl (self t) (self u)
   where
-    self : (t : Term) → SameTerm (λ a b. a ≡ b) t t
-    self term.None = none
-    self (term.Some c s) = some refl
+    self : (t : Option Term) → SameTerm (λ a b. a ≡ b) t t
+    self None = none
+    self (Some c) = some refl
 
 -- ---- until, over predicates that are true together
 
@@ -140,7 +139,7 @@ module _ {x y : Items} {θ η : Valuation} {Like : ℕ → ℕ → Type 0} (e : 
       let s = terms t u in
       (until_same (f a c k) (f b d l) s m, until_same (λ m. Iff.symm (f a c k m)) (λ m. Iff.symm (f b d l m)) (counts_back s) m)
     where
-      terms : {t u v w : Term} → SameTerm Like t v → SameTerm Like u w → SameCounts (counted_terms T t ++ counted_terms T u) (counted_terms U v ++ counted_terms U w)
+      terms : {t u v w : Option Term} → SameTerm Like t v → SameTerm Like u w → SameCounts (counted_terms T t ++ counted_terms T u) (counted_terms U v ++ counted_terms U w)
       terms none none = nil
       terms none (some {a = a} {b = b} k) = cons (f a b k) nil
       terms (some {a = a} {b = b} k) none = cons (f a b k) nil

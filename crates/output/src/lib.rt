@@ -8,7 +8,7 @@ ghost use Rattle.output.specs.Line.{line_of, longest, holding, pushed, with_byte
 
 use answers::Told;
 
-// A line: its bytes are the first, as many as the count says.
+// A line: its bytes are the first, as many as the count says. (Fixed memory, no heap.)
 #[derive(Clone, Copy)]
 pub struct Line {
     pub bytes: [u8; Line::MOST],
@@ -28,9 +28,8 @@ impl Line {
         ensures value { result ≡ pushed self b }
         ensures count_value { result.count ≡ self.count + 1 }
     {
-        let at = self.count;
-        self.bytes[at] = b;
-        self.count = at + 1;
+        self.bytes[self.count] = b;
+        self.count += 1;
         self
     }
 

@@ -1,6 +1,6 @@
 -- A case with other places instead of those that it holds, each of which meets the rules, has what every case has that records make; where they are the same but
 -- for rounds and marks, it has the same loops and drifts beside its items. Assumes nothing.
-use Rattle.std.specs.Prelude.{◌≡◌, refl, ◌↔◌, List, [], ◌∷◌, cond, ℕ, suc, ◌+◌, ◌≤◌, ◌<◌, leb, pos, length, get_or}
+use Rattle.std.specs.Prelude.{◌≡◌, refl, ◌↔◌, List, [], ◌∷◌, cond, ℕ, suc, ◌+◌, ◌≤◌, ◌<◌, leb, pos, length, get_or, None}
 use Rattle.std.proofs.Common.{sym, ◌∙◌, ap, subst, arith}
 use Rattle.laws.specs.Tab.{tab}
 use Rattle.kinds.specs.declared.Kind.{Kind}
@@ -9,7 +9,6 @@ use Rattle.kinds.specs.declared.Counts.{Counts}
 use Rattle.kinds.specs.Kinds.{count_of, counts_by, same}
 use Rattle.kinds.specs.Laws.{each_kind}
 use Rattle.counters.specs.Vectors.{vec_of}
-use Rattle.items.specs.declared.Ref.TheVariants as ref
 use Rattle.items.specs.declared.Place.{Place}
 use Rattle.items.specs.Items.{Item, item_of, row_of}
 use Rattle.items.specs.Lists.{Items, list_of, items_by, counts_of, room_of, no_item, with_places}
@@ -92,7 +91,7 @@ module _ {c : Case} (s : Sound c) (qs : List Place) where
   -- the case has what every case has that records make, where the places are within the room, each meets the rules, field 2 is blank exactly at place 0, and
   -- loops lie well
   pub sound_places : length qs ≤ room_of kind.Place → ((p : ℕ) → p < length qs → Meets c.count kind.Place p (place_at qs p)) →
-      ((p : ℕ) → p < length qs → (p ≡ 0) ↔ ((place_at qs p).way ≡ ref.None)) → LoopsApart qs → Sound (case_of (with_places (items_of c) qs))
+      ((p : ℕ) → p < length qs → (p ≡ 0) ↔ ((place_at qs p).way ≡ None)) → LoopsApart qs → Sound (case_of (with_places (items_of c) qs))
   sound_places few h ways loops =
       record {
         same = ap case_of (sym (items_of_lem y));
@@ -100,7 +99,7 @@ module _ {c : Case} (s : Sound c) (qs : List Place) where
         fit = λ k i l. (all k i l).fit;
         there = λ k i l. subst (λ n. There n k (row_of k (get_or (list_of k (items_of (case_of y))) i (no_item k)))) (sym (same_reach k i)) (all k i l).there;
         read = λ k i l. (all k i l).read;
-        ways = λ i l. subst (λ (z : Items). (i ≡ 0) ↔ ((place_at z.places i).way ≡ ref.None)) (sym (items_of_lem y)) (ways i l);
+        ways = λ i l. subst (λ (z : Items). (i ≡ 0) ↔ ((place_at z.places i).way ≡ None)) (sym (items_of_lem y)) (ways i l);
         loops = subst (λ (z : Items). LoopsApart z.places) (sym (items_of_lem y)) loops;
       }
     where

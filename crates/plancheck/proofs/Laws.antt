@@ -1,13 +1,13 @@
 -- The numbers of a line, and a line feed looked for. Assumes nothing.
-use mathlib.Core.Path.{◌≡◌, sym, ◌∙◌, ap}
-use mathlib.Core.Bool.{true, false, ◌||◌}
+use mathlib.Core.Path.{◌≡◌, refl, sym, ◌∙◌, ap}
+use mathlib.Core.Bool.{◌||◌}
 use mathlib.Core.List.{List, [], ◌∷◌, ◌++◌, append_assoc}
-use Prim.Native.Nat.{ℕ, suc, ◌+◌, ◌-◌, ◌≤◌, ◌<◌}
-use native.Mathlib.Numerals.{add-one}
+use Prim.Native.Nat.{ℕ, ◌+◌, ◌-◌}
 use native.Mathlib.Omega.{arith}
-use borrow.Author.Tests.{eq-eqb, ne_eqb}
-use lib.ListN.{length, get_or, take, drop, replicate, length-append, drop_of_length-le}
-use lib.Seq.{take_at, drop-cons}
+use Rattle.std.proofs.Common.{eqb}
+use Rattle.std.specs.List.{list_any}
+use lib.ListN.{length, take, replicate, length-append}
+use lib.Seq.{take_at}
 use Rattle.record.specs.Spelling.{space}
 use Rattle.record.specs.Layout.{line_feed}
 use Rattle.answers.specs.declared.Told.{Told}
@@ -43,21 +43,7 @@ parts_put t name p q r s =
 
 -- ---- a line feed looked for
 
--- there was none in the first i bytes
-module _ (name : List ℕ) (i : ℕ) (e : has_line_feed name ≡ has_line_feed (drop i name)) where
-  pub feed_here : i < length name → get_or name i 0 ≡ line_feed → true ≡ has_line_feed name
-  unfolding has_line_feed
-  feed_here h f =
-      sym (e ∙ ap has_line_feed (drop-cons name i 0 h) ∙ ap (λ t. t || has_line_feed (drop (suc i) name)) (eq-eqb (get_or name i 0) line_feed f))
-
-  pub feed_later : i < length name → (get_or name i 0 ≡ line_feed → ⊥) → has_line_feed name ≡ has_line_feed (drop (i + 1) name)
-  unfolding has_line_feed
-  feed_later h f =
-      e
-      ∙ ap has_line_feed (drop-cons name i 0 h)
-      ∙ ap (λ t. t || has_line_feed (drop (suc i) name)) (ne_eqb (get_or name i 0) line_feed f)
-      ∙ ap (λ k. has_line_feed (drop k name)) (sym (add-one i))
-
-  pub feed_nowhere : length name ≤ i → false ≡ has_line_feed name
-  unfolding has_line_feed
-  feed_nowhere h = sym (e ∙ ap has_line_feed (drop_of_length-le name h))
+pub feed_found : (name : List ℕ) → list_any (λ b. eqb b line_feed) name ≡ has_line_feed name
+unfolding has_line_feed
+feed_found [] = refl
+feed_found (b ∷ bs) = ap (λ t. eqb b line_feed || t) (feed_found bs)

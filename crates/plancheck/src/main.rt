@@ -45,26 +45,17 @@ fn named(src: &[u8], name: &[u8], buf: &mut [u8; MOST]) -> usize
     let line = line_of(answer(src));
     let bytes = line.bytes;
     let count = line.count - 1;
-    let view: &mut [u8] = buf;
-    let numbers = put(&bytes[..count], 0, view);
-    let spaced = put(b" ", numbers, view);
-    let all = put(name, spaced, view);
-    put(b"\n", all, view)
+    let numbers = put(&bytes[..count], 0, buf);
+    let spaced = put(b" ", numbers, buf);
+    let all = put(name, spaced, buf);
+    put(b"\n", all, buf)
 }
 
 // Whether a name has a line feed in it, so that its line would be two.
 fn has_line_feed(name: &[u8]) -> bool
     ensures { result ≡ has_line_feed name.now }
 {
-    let mut i: usize = 0;
-    while i < name.len() {
-        let is_feed = name[i] == b'\n';
-        if is_feed {
-            return true;
-        }
-        i += 1;
-    }
-    false
+    name.contains(&b'\n')
 }
 
 // Writes a line, and answers whether all of it was written; where it wasn't, it says why, but for a reader that has enough.
@@ -126,9 +117,8 @@ fn judge_file(rt: &HostRuntime, name: &[u8], src: &mut [u8]) -> bool
         fail(rt, name, error);
         return true;
     }
-    let n = input.count;
     let mut line = [0u8; MOST];
-    let m = named(&src[..n], name, &mut line);
+    let m = named(&src[..input.count], name, &mut line);
     print(rt, &line[..m])
 }
 
@@ -163,11 +153,9 @@ fn judge_input(rt: &HostRuntime) {
         fail(rt, b"standard input", error);
         return;
     }
-    let n = input.count;
-    let line = line_of(answer(&src[..n]));
+    let line = line_of(answer(&src[..input.count]));
     let bytes = line.bytes;
-    let count = line.count;
-    print(rt, &bytes[..count]);
+    print(rt, &bytes[..line.count]);
 }
 
 fn main(rt: HostRuntime) {

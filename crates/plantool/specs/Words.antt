@@ -1,9 +1,7 @@
 -- The words of the program: how each is asked for, and what it prints.
-use Rattle.std.specs.Prelude.{◌≡◌, List, [], ◌∷◌, ℕ}
+use Rattle.std.specs.Prelude.{◌≡◌, List, [], ◌∷◌, ℕ, Option, Some, None}
 use Rattle.number.specs.Numbers.{IsNumber}
 use Rattle.tool.specs.Outputs.{fill_output, rounds_output, set_output}
-use Rattle.plantool.specs.declared.Asked.{Asked}
-use Rattle.plantool.specs.declared.Asked.TheVariants.{For, Nothing}
 use Rattle.plantool.specs.declared.Word.{Word}
 use Rattle.plantool.specs.declared.Word.TheVariants.{Fill, Rounds, Set}
 
@@ -20,6 +18,6 @@ AskedBy bytes count first second (Rounds k) = (bytes ≡ 114 ∷ 111 ∷ 117 ∷
 AskedBy bytes count first second (Set k n) = (bytes ≡ 115 ∷ 101 ∷ 116 ∷ []) × (count ≡ 2) × IsNumber first k × IsNumber second n
 
 -- the word is told that is asked for, and nothing where none is
-abbrev pub AskedRightly : List ℕ → ℕ → List ℕ → List ℕ → Asked → Type 0
-AskedRightly bytes count first second (For word) = AskedBy bytes count first second word
-AskedRightly bytes count first second Nothing = (word : Word) → AskedBy bytes count first second word → ⊥
+abbrev pub AskedRightly : List ℕ → ℕ → List ℕ → List ℕ → Option Word → Type 0
+AskedRightly bytes count first second (Some word) = AskedBy bytes count first second word
+AskedRightly bytes count first second None = (word : Word) → AskedBy bytes count first second word → ⊥

@@ -7,7 +7,6 @@ ghost use Rattle.input.specs.Counts.{IsPrefixLen};
 ghost use Rattle.plantool.specs.Words.{AskedRightly, printed};
 
 use casefile::ENOUGH;
-use number::Number;
 use std::env::FillError;
 use std::io::ErrorKind;
 use std::rt::Env;
@@ -28,36 +27,23 @@ impl Word {
     const LONGEST: usize = 6;
 }
 
-// What the arguments ask for.
-#[derive(Clone, Copy)]
-enum Asked {
-    For(Word),
-    Nothing,
-}
-
-// What is asked for by the bytes of a word and how many numbers follow it, with the bytes of the first two.
-fn asked_by(word: &[u8], count: usize, first: &[u8], second: &[u8]) -> Asked
+// The word that is asked for by its bytes and how many numbers follow it, with the bytes of the first two; none where nothing is asked for.
+fn asked_by(word: &[u8], count: usize, first: &[u8], second: &[u8]) -> Option<Word>
     ensures { AskedRightly word.now count first.now second.now result }
 {
     if count == 0 && word == b"fill".as_slice() {
-        return Asked::For(Word::Fill);
+        return Some(Word::Fill);
     }
     if count == 1 && word == b"rounds".as_slice() {
-        let Number::Is(k) = number::number_of(first) else {
-            return Asked::Nothing;
-        };
-        return Asked::For(Word::Rounds(k));
+        let k = number::number_of(first)?;
+        return Some(Word::Rounds(k));
     }
     if count == 2 && word == b"set".as_slice() {
-        let Number::Is(k) = number::number_of(first) else {
-            return Asked::Nothing;
-        };
-        let Number::Is(n) = number::number_of(second) else {
-            return Asked::Nothing;
-        };
-        return Asked::For(Word::Set(k, n));
+        let k = number::number_of(first)?;
+        let n = number::number_of(second)?;
+        return Some(Word::Set(k, n));
     }
-    Asked::Nothing
+    None
 }
 
 // How many arguments the program has, without its name.
@@ -72,17 +58,17 @@ fn argument_count(rt: &HostRuntime) -> usize {
     count
 }
 
-// What the program's arguments ask for. (The first is its name; one that is missing, or longer than a word or a number can be, is read as no bytes.)
-fn arguments(rt: &HostRuntime) -> Asked {
+// The word that the program's arguments ask for. (The first is its name; one that is missing, or longer than a word or a number can be, is read as no bytes.)
+fn arguments(rt: &HostRuntime) -> Option<Word> {
     let count = argument_count(rt);
     if count < 1 {
-        return Asked::Nothing;
+        return None;
     }
     let mut word = [0u8; Word::LONGEST];
     let n = rt.arg(1, &mut word).unwrap_or(0);
-    let mut first = [0u8; Number::LONGEST];
+    let mut first = [0u8; number::LONGEST];
     let a = rt.arg(2, &mut first).unwrap_or(0);
-    let mut second = [0u8; Number::LONGEST];
+    let mut second = [0u8; number::LONGEST];
     let b = rt.arg(3, &mut second).unwrap_or(0);
     asked_by(&word[..n], count - 1, &first[..a], &second[..b])
 }
@@ -97,7 +83,7 @@ fn run(word: Word, src: &[u8], buf: &mut [u8; MOST]) -> usize
         Word::Rounds(k) => tool::rounds(src, k, buf),
         Word::Set(k, n) => tool::set(src, k, n, buf),
     };
-    written.told().second
+    written.unwrap_or(0)
 }
 
 // Reads a case file, and writes what a word prints for it; where it can't, it says why, but for a reader that has enough.
@@ -119,7 +105,7 @@ fn print(rt: &HostRuntime, word: Word) {
 }
 
 fn main(rt: HostRuntime) {
-    let Asked::For(word) = arguments(&rt) else {
+    let Some(word) = arguments(&rt) else {
         let _ = eprintln!(rt;
             "plantool: usage: plantool fill | rounds L | set L N, with the case on standard input"
         );

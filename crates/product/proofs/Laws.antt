@@ -1,15 +1,14 @@
 -- A line in a buffer, and a file after it. Assumes nothing.
-use mathlib.Core.Path.{◌≡◌, refl, sym, ◌∙◌, ap, ap₂}
-use mathlib.Core.List.{List, [], ◌∷◌, ◌++◌}
-use Prim.Native.Nat.{ℕ, suc, ◌+◌, ◌-◌, ◌≤◌, ◌<◌}
-use native.Mathlib.Numerals.{add-one}
+use Rattle.std.specs.Prelude.{Ok}
+use mathlib.Core.Path.{◌≡◌, refl, sym, ◌∙◌, ap}
+use mathlib.Core.List.{List, ◌++◌}
+use Prim.Native.Nat.{ℕ, ◌+◌, ◌-◌, ◌≤◌}
 use native.Mathlib.Omega.{arith}
-use lib.ListN.{length, get_or, take, drop, set, replicate, length-set, length-append, length-drop}
-use lib.Seq.{take_at, take-suc, length-take-le, drop-cons, set_at, append_snoc}
+use lib.ListN.{length, take, drop, replicate, length-append, length-drop}
+use lib.Seq.{take_at}
 use Rattle.laws.specs.Parts.{lent, back}
 use Rattle.items.specs.Lists.{Items}
 use Rattle.items.specs.File.{file_of}
-use Rattle.answers.specs.declared.Written.TheVariants.{All}
 use Rattle.output.specs.declared.Line.{Line}
 use Rattle.output.specs.Line.{line_of, longest, holding}
 use Rattle.writer.specs.Written.{written_of, buffer_after}
@@ -18,22 +17,6 @@ use Rattle.writer.proofs.Items.{all_fits}
 use Rattle.product.specs.Product.{product_of}
 
 -- ---- a line
-
--- one byte more of l is put into a buffer
-pub begun_byte : (l : List ℕ) {p₀ p : List ℕ} {i : ℕ} → Begun p₀ (take i l) p i → i < length l → i < length p₀ →
-    Begun p₀ (take (i + 1) l) (set p i (get_or l i 0)) (i + 1)
-begun_byte l {p₀} {p} {i} b h g =
-    let x = get_or l i 0 in
-    let more : take i l ++ (x ∷ []) ≡ take (i + 1) l = sym (ap (λ k. take k l) (add-one i) ∙ take-suc l i 0 h) in
-    record {
-      bytes =
-          ap (λ q. set q i x) (b.bytes ∙ ap (λ q. take i l ++ q) (drop-cons p₀ i 0 g))
-          ∙ set_at (take i l) (get_or p₀ i 0) (drop (suc i) p₀) x i b.size
-          ∙ sym (append_snoc (take i l) x (drop (suc i) p₀))
-          ∙ ap₂ (λ q n. q ++ drop n p₀) more (sym (add-one i));
-      size = length-take-le (i + 1) l (omega arith);
-      long = length-set p i x ∙ b.long;
-    }
 
 module _ (bs : List ℕ) {l : Line} (e : l ≡ holding bs) where
   -- a line counts the bytes that it holds
@@ -57,10 +40,10 @@ module _ (bs : List ℕ) {l : Line} (e : l ≡ holding bs) where
 -- ---- what is told
 
 -- all bytes are written
-pub begun_all : (w : List ℕ) {p₀ p : List ℕ} {n : ℕ} → Begun p₀ w p n → n ≤ length p₀ → (All n ≡ written_of w (length p₀)) × (p ≡ buffer_after w p₀)
+pub begun_all : (w : List ℕ) {p₀ p : List ℕ} {n : ℕ} → Begun p₀ w p n → n ≤ length p₀ → (Ok n ≡ written_of w (length p₀)) × (p ≡ buffer_after w p₀)
 begun_all w {p₀} b h =
     let f = all_fits w p₀ (omega (arith, b.size)) in
-    (ap All (sym b.size) ∙ f.0, b.bytes ∙ ap (λ k. w ++ drop k p₀) (sym b.size) ∙ f.1)
+    (ap Ok (sym b.size) ∙ f.0, b.bytes ∙ ap (λ k. w ++ drop k p₀) (sym b.size) ∙ f.1)
 
 -- ---- a file after its line
 

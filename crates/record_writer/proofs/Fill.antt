@@ -1,12 +1,13 @@
 -- A number put into a field of a record; fields filled in over a blank record, one after the other, are the record with these fields. Assumes nothing.
+use Rattle.std.specs.Prelude.{Option}
 use mathlib.Core.Path.{◌≡◌, refl, ◌∙◌, sym, ap, ap₂, subst}
 use mathlib.Core.List.{List, [], ◌∷◌, ◌++◌, map, append-nil, append_assoc, map-append}
 use Prim.Native.Nat.{ℕ, suc, ◌+◌, ◌-◌, ◌*◌, ◌≤◌, ◌<◌}
 use native.Mathlib.Numerals.{add-one}
 use native.Mathlib.Omega.{arith}
 use lib.IntN.{ℤ, pos}
-use lib.ListN.{length, get_or, take, drop, set, replicate, length-map, length-set, length-append, length-replicate, replicate-append-replicate, get_or-map}
-use lib.Seq.{take_at, take-append-add, drop-append-add, append_snoc, take-add, drop-drop, drop-cons, set_at, take-suc, length-take-le}
+use lib.ListN.{length, get_or, take, drop, replicate, length-map, length-append, length-replicate, replicate-append-replicate, get_or-map}
+use lib.Seq.{take_at, take-append-add, drop-append-add, append_snoc, take-add, drop-drop, take-suc, length-take-le}
 use Rattle.laws.specs.All.{none, also, gather}
 use Rattle.laws.specs.Members.{all_at, all_both, all_parts}
 use Rattle.laws.specs.Gathered.{gather_both, gather_long}
@@ -48,25 +49,6 @@ put_field p q text r f h u =
     ∙ ap (λ b. take a p ++ b) (u.bytes ∙ ap (ending_at width text) (lent_all a p))
     ∙ sym (append_assoc (take a p) (take (width - t) (drop a p)) (text ++ drop width (drop a p)))
     ∙ ap₂ (λ b c. b ++ (text ++ c)) (sym (take-add a (width - t) p) ∙ ap (λ n. take n p) i) (drop-drop width a p ∙ ap (λ n. drop n p) e)
-
--- ---- a blank record
-
--- the first i bytes are spaces, and the rest is as it was
-pub record Spaces (p₀ p : List ℕ) (i : ℕ) : Type 0 where
-  pub bytes : p ≡ replicate i space ++ drop i p₀
-  pub long : length p ≡ length p₀
-
-pub spaces_more : {p₀ p : List ℕ} {i : ℕ} → Spaces p₀ p i → i < length p₀ → Spaces p₀ (set p i space) (i + 1)
-spaces_more {p₀} {p} {i} s h =
-    let one : replicate i space ++ (space ∷ []) ≡ replicate (i + 1) space = replicate-append-replicate i 1 space in
-    record {
-      bytes =
-          ap (λ l. set l i space) (s.bytes ∙ ap (λ l. replicate i space ++ l) (drop-cons p₀ i 0 h))
-          ∙ set_at (replicate i space) (get_or p₀ i 0) (drop (suc i) p₀) space i (length-replicate i space)
-          ∙ sym (append_snoc (replicate i space) space (drop (suc i) p₀))
-          ∙ ap₂ (λ l n. l ++ drop n p₀) one (sym (add-one i));
-      long = length-set p i space ∙ s.long;
-    }
 
 -- ---- fields in a row
 
@@ -189,7 +171,7 @@ place_spells p h = go (filled_spells kind.Place p h)
     go : {a b c : Field} {l : List Field} → CanSpell (a ∷ b ∷ c ∷ l) → HasSpelling c.content × CanSpell l
     go (also x (also y (also z s))) = (z, s)
 
-pub until_spells : {a b : ℕ} {z : ℤ} {t u : Term} (s : Sentence) → s.form ≡ form.Until a b z t u → HasRecord kind.Sentence s → Spellable z
+pub until_spells : {a b : ℕ} {z : ℤ} {t u : Option Term} (s : Sentence) → s.form ≡ form.Until a b z t u → HasRecord kind.Sentence s → Spellable z
 until_spells s e h = go (subst (λ f. CanSpell (form_fields f)) e (filled_spells kind.Sentence s h))
   where
     go : {a b c d : Field} {l : List Field} → CanSpell (a ∷ b ∷ c ∷ d ∷ l) → HasSpelling d.content

@@ -1,4 +1,5 @@
-// The record of an item, written at the start of a lent part: all of it blank first, then each number over its field.
+// The record of an item, written at the start of a lent part: all of it blank first, then each number over its field. (The part
+// of the buffer from the record's start is lent on, as document 01 has it; an array of 58 bytes would ask more of callers.)
 #![tactic(auto)]
 
 ghost use Rattle.std.specs.Prelude.{◌≡◌, ◌∷◌, [], ◌++◌, map, ◌+◌, ◌≤◌, ◌<◌, ◌^◌, pos, length, drop, replicate};
@@ -11,7 +12,7 @@ ghost use Rattle.items.specs.Items.{number, integer, blank, reference, term_fiel
 ghost use Rattle.items.specs.File.{CanSpell, record_bytes, item_bytes};
 ghost use Rattle.record_writer.specs.Fields.{Put, fill_in, fill_from, HasRecord};
 
-use items::{Form, Guard, LoopMark, Move, Place, Ref, Sentence, State, Term, Weights};
+use items::{Form, Guard, LoopMark, Move, Place, Sentence, State, Term, Weights};
 use kinds::{Kind, PerCounter};
 use record::Record;
 
@@ -25,7 +26,7 @@ fn write_digits(part: &mut [u8], n: u32) -> usize
     while 9 < left {
         i -= 1;
         part[i] = b'0' + (left % 10) as u8;
-        left = left / 10;
+        left /= 10;
     }
     i -= 1;
     part[i] = b'0' + left as u8;
@@ -37,13 +38,12 @@ fn write_number(part: &mut [u8], x: i32) -> usize
     requires { (width ≤ length part.old) × Spellable x }
     ensures { Put part.old (token x) part.new result }
 {
+    let mut i = write_digits(part, x.unsigned_abs());
     if x < 0 {
-        let y = 0 - x;
-        let i = write_digits(part, y as u32) - 1;
+        i -= 1;
         part[i] = b'-';
-        return i;
     }
-    write_digits(part, x as u32)
+    i
 }
 
 // Makes a record of a kind with all fields blank.
@@ -51,11 +51,7 @@ fn write_blank(part: &mut [u8], kind: Kind)
     requires { record_length ≤ length part.old }
     ensures { part.new ≡ record_bytes kind (replicate fields blank) ++ drop record_length part.old }
 {
-    let mut i: usize = 0;
-    while i < Record::LENGTH {
-        part[i] = b' ';
-        i += 1;
-    }
+    part[..Record::LENGTH].fill(b' ');
     part[0] = kind.letter();
     part[Record::LENGTH - 1] = b'\n';
 }
@@ -78,15 +74,12 @@ fn put_number(part: &mut [u8], f: usize, n: u32)
 }
 
 // Puts a reference into field f, which stays blank where it names nothing.
-fn put_reference(part: &mut [u8], f: usize, to: Ref)
+fn put_reference(part: &mut [u8], f: usize, to: Option<u8>)
     requires { (record_length ≤ length part.old) × (1 ≤ f) × (f ≤ fields) }
     ensures { part.new ≡ fill_in f (reference to).content part.old }
 {
-    match to {
-        Ref::None => {}
-        Ref::At(n) => {
-            put_number(part, f, n as u32);
-        }
+    if let Some(n) = to {
+        put_number(part, f, u32::from(n));
     }
 }
 
@@ -95,62 +88,56 @@ fn put_counters(part: &mut [u8], from: usize, each: PerCounter)
     requires { (record_length ≤ length part.old) × (1 ≤ from) × (from + counters ≤ fields + 1) }
     ensures { part.new ≡ fill_from from (map integer each.at) part.old }
 {
-    let at = each.at;
-    let mut j: usize = 0;
-    while j < PerCounter::COUNT {
-        let x = at[j];
-        put_integer(part, from + j, x as i32);
-        j += 1;
+    for j in 0..PerCounter::COUNT {
+        put_integer(part, from + j, i32::from(each.at[j]));
     }
 }
 
-// Puts the weight of each counter into the fields from the first on.
+// Puts the weight of each counter into the fields from the first on. (As one function with `put_counters` it would take a closure whose cast is proved at
+// each call: no plainer.)
 fn put_weights(part: &mut [u8], w: Weights)
     requires { (record_length ≤ length part.old) × CanSpell (map integer w.at) }
     ensures { part.new ≡ fill_from 1 (map integer w.at) part.old }
 {
-    let at = w.at;
-    let mut j: usize = 0;
-    while j < PerCounter::COUNT {
-        let x = at[j];
-        put_integer(part, 1 + j, x as i32);
-        j += 1;
+    for j in 0..PerCounter::COUNT {
+        put_integer(part, 1 + j, w.at[j] as i32);
     }
 }
 
 // Puts a term into fields f and f + 1, which stay blank where there is none.
-fn put_term(part: &mut [u8], f: usize, term: Term)
+fn put_term(part: &mut [u8], f: usize, term: Option<Term>)
     requires { (record_length ≤ length part.old) × (1 ≤ f) × (f < fields) }
     ensures { part.new ≡ fill_from f (term_fields term) part.old }
 {
-    match term {
-        Term::None => {}
-        Term::Some {
-            coefficient,
-            sentence,
-        } => {
-            put_integer(part, f, coefficient as i32);
-            put_number(part, f + 1, sentence as u32);
-        }
+    if let Some(term) = term {
+        put_integer(part, f, i32::from(term.coefficient));
+        put_number(part, f + 1, u32::from(term.sentence));
     }
 }
 
-// Puts the form of a sentence and up to two operands into the first three fields.
-fn put_form(part: &mut [u8], form: u8, first: Ref, second: Ref)
+// Puts the form of a sentence, by document 01's number, and up to two operands into the first three fields.
+fn put_form(part: &mut [u8], form: u8, first: Option<u8>, second: Option<u8>)
     requires { record_length ≤ length part.old }
     ensures { part.new ≡ fill_from 1 (number form ∷ reference first ∷ reference second ∷ []) part.old }
 {
-    put_number(part, 1, form as u32);
+    put_number(part, 1, u32::from(form));
     put_reference(part, 2, first);
     put_reference(part, 3, second);
 }
 
 // Puts the form of an until, what is held, its goal, its bound and its terms into the fields of a record.
-fn put_until(part: &mut [u8], held: u8, goal: u8, bound: i32, term1: Term, term2: Term)
+fn put_until(
+    part: &mut [u8],
+    held: u8,
+    goal: u8,
+    bound: i32,
+    term1: Option<Term>,
+    term2: Option<Term>,
+)
     requires { (record_length ≤ length part.old) × Spellable bound }
     ensures { part.new ≡ fill_from 1 (number 6 ∷ number held ∷ number goal ∷ integer bound ∷ (term_fields term1 ++ term_fields term2)) part.old }
 {
-    put_form(part, 6, Ref::At(held), Ref::At(goal));
+    put_form(part, 6, Some(held), Some(goal));
     put_integer(part, 4, bound);
     put_term(part, 5, term1);
     put_term(part, 7, term2);
@@ -168,13 +155,13 @@ fn put_mark(part: &mut [u8], mark: LoopMark)
             rounds,
             back,
         } => {
-            put_number(part, 4, length as u32);
+            put_number(part, 4, u32::from(length));
             put_number(part, 5, rounds);
-            put_number(part, 6, back as u32);
+            put_number(part, 6, u32::from(back));
         }
         LoopMark::Endless { length, back } => {
-            put_number(part, 4, length as u32);
-            put_number(part, 6, back as u32);
+            put_number(part, 4, u32::from(length));
+            put_number(part, 6, u32::from(back));
         }
     }
 }
@@ -185,7 +172,7 @@ pub fn write_state(part: &mut [u8], s: State)
     ensures { part.new ≡ item_bytes kind.State s ++ drop record_length part.old }
 {
     write_blank(part, Kind::State);
-    put_number(part, 1, s.propositions as u32);
+    put_number(part, 1, u32::from(s.propositions));
 }
 
 // Writes the record of starting weights.
@@ -212,14 +199,12 @@ pub fn write_move(part: &mut [u8], m: Move)
     requires { (record_length ≤ length part.old) × HasRecord kind.Move m }
     ensures { part.new ≡ item_bytes kind.Move m ++ drop record_length part.old }
 {
-    let guard1 = m.guard1;
-    let guard2 = m.guard2;
     write_blank(part, Kind::Move);
-    put_number(part, 1, m.from as u32);
-    put_number(part, 2, m.to as u32);
+    put_number(part, 1, u32::from(m.from));
+    put_number(part, 2, u32::from(m.to));
     put_counters(part, 3, m.updates);
-    put_reference(part, 3 + PerCounter::COUNT, guard1);
-    put_reference(part, 4 + PerCounter::COUNT, guard2);
+    put_reference(part, 3 + PerCounter::COUNT, m.guard1);
+    put_reference(part, 4 + PerCounter::COUNT, m.guard2);
 }
 
 // Writes the record of a sentence.
@@ -228,14 +213,13 @@ pub fn write_sentence(part: &mut [u8], s: Sentence)
     ensures { part.new ≡ item_bytes kind.Sentence s ++ drop record_length part.old }
 {
     write_blank(part, Kind::Sentence);
-    let form = s.form;
-    match form {
-        Form::True => put_form(part, 0, Ref::None, Ref::None),
-        Form::Proposition(p) => put_form(part, 1, Ref::At(p), Ref::None),
-        Form::Guard(g) => put_form(part, 2, Ref::At(g), Ref::None),
-        Form::And(a, b) => put_form(part, 3, Ref::At(a), Ref::At(b)),
-        Form::Not(a) => put_form(part, 4, Ref::At(a), Ref::None),
-        Form::Next(a) => put_form(part, 5, Ref::At(a), Ref::None),
+    match s.form {
+        Form::True => put_form(part, 0, None, None),
+        Form::Proposition(p) => put_form(part, 1, Some(p), None),
+        Form::Guard(g) => put_form(part, 2, Some(g), None),
+        Form::And(a, b) => put_form(part, 3, Some(a), Some(b)),
+        Form::Not(a) => put_form(part, 4, Some(a), None),
+        Form::Next(a) => put_form(part, 5, Some(a), None),
         Form::Until {
             held,
             goal,
@@ -251,11 +235,9 @@ pub fn write_place(part: &mut [u8], p: Place)
     requires { (record_length ≤ length part.old) × HasRecord kind.Place p }
     ensures { part.new ≡ item_bytes kind.Place p ++ drop record_length part.old }
 {
-    let way = p.way;
-    let mark = p.mark;
     write_blank(part, Kind::Place);
-    put_number(part, 1, p.state as u32);
-    put_reference(part, 2, way);
+    put_number(part, 1, u32::from(p.state));
+    put_reference(part, 2, p.way);
     put_number(part, 3, p.marks);
-    put_mark(part, mark);
+    put_mark(part, p.mark);
 }

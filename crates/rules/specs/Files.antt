@@ -7,8 +7,8 @@ use Rattle.kinds.specs.declared.Kind.{Kind}
 use Rattle.kinds.specs.Kinds.{letter_of, counts_total}
 use Rattle.items.specs.Items.{item_of}
 use Rattle.items.specs.Lists.{Items, items_by, counts_of}
-use Rattle.answers.specs.declared.Answer.{Answer}
 use Rattle.rules.specs.Rules.{Applies, IsFirst}
+use Rattle.answers.specs.Answers.{Answer}
 
 -- the rows of fields of the records of a kind, in order
 unfoldable pub rows_of : Kind → List (List ℕ) → List (List Field)

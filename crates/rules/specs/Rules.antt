@@ -1,6 +1,6 @@
 -- The rules of taking, in document 01's words: which refusal applies to a record where a case is held, and with which field or byte.
 -- Nothing here says in which order they are tested, or what the collector keeps.
-use Rattle.std.specs.Prelude.{◌≡◌, ◌⊎◌, List, Bool, true, false, ℕ, ◌+◌, ◌-◌, ◌^◌, ◌≤◌, ◌<◌, ℤ, pos, ◌≤ℤ◌, length, get_or}
+use Rattle.std.specs.Prelude.{◌≡◌, ◌⊎◌, List, Bool, true, false, ℕ, ◌+◌, ◌-◌, ◌^◌, ◌≤◌, ◌<◌, ℤ, pos, ◌≤ℤ◌, length, get_or, Err, Ok}
 use Rattle.record.specs.declared.Content.{Content}
 use Rattle.record.specs.declared.Content.TheVariants.{Blank, Number, Bad}
 use Rattle.record.specs.declared.Field.{Field}
@@ -22,9 +22,8 @@ use Rattle.items.specs.declared.LoopMark.{LoopMark}
 use Rattle.items.specs.declared.LoopMark.TheVariants as mark
 use Rattle.items.specs.declared.Place.{Place}
 use Rattle.items.specs.Lists.{Items, list_of, counts_of, room_of, no_item}
-use Rattle.answers.specs.declared.Answer.{Answer}
-use Rattle.answers.specs.declared.Answer.TheVariants.{Taken, NotARecord, NoLineFeed, NoSuchKind, Misspelled, Misfilled, OutOfRange, OutOfOrder, NoRoom, NotThere, Misplaced, WrongWayIn}
-use Rattle.answers.specs.Answers.{Before}
+use Rattle.answers.specs.declared.Refusal.TheVariants.{NotARecord, NoLineFeed, NoSuchKind, Misspelled, Misfilled, OutOfRange, OutOfOrder, NoRoom, NotThere, Misplaced, WrongWayIn}
+use Rattle.answers.specs.Answers.{Before, Answer}
 
 -- ---- a record
 
@@ -150,23 +149,23 @@ WayInWrong x bs =
 
 -- a refusal applies to the record bs where the items x are held
 abbrev pub Applies : Items → List ℕ → Answer → Type 0
-Applies x bs Taken = ⊥
-Applies x bs NotARecord = length bs ≡ record_length → ⊥
-Applies x bs NoLineFeed = get_or bs (record_length - 1) 0 ≡ line_feed → ⊥
-Applies x bs NoSuchKind = (k : Kind) → IsA k bs → ⊥
-Applies x bs (Misspelled p) = BadPlace bs p
-Applies x bs (Misfilled f) =
+Applies x bs (Ok tt) = ⊥
+Applies x bs (Err NotARecord) = length bs ≡ record_length → ⊥
+Applies x bs (Err NoLineFeed) = get_or bs (record_length - 1) 0 ≡ line_feed → ⊥
+Applies x bs (Err NoSuchKind) = (k : Kind) → IsA k bs → ⊥
+Applies x bs (Err (Misspelled p)) = BadPlace bs p
+Applies x bs (Err (Misfilled f)) =
     (k : Kind)
     × IsA k bs
     × HasForm k (fields_of bs)
     × (Lowest (IsMissing k (fields_of bs)) f ⊎ (((g : ℕ) → IsMissing k (fields_of bs) g → ⊥) × Lowest (IsExtra k (fields_of bs)) f))
-Applies x bs (OutOfRange f) = (k : Kind) × IsA k bs × Lowest (IsOutside k (fields_of bs)) f
-Applies x bs OutOfOrder = (k : Kind) × IsA k bs × ((j : Kind) × (rank_of k < rank_of j) × (0 < length (list_of j x)))
-Applies x bs NoRoom = (k : Kind) × IsA k bs × (room_of k ≤ length (list_of k x))
-Applies x bs (NotThere f) = (k : Kind) × IsA k bs × Lowest (IsNotThere (counts_of x) k (fields_of bs)) f
-Applies x bs (Misplaced f) =
+Applies x bs (Err (OutOfRange f)) = (k : Kind) × IsA k bs × Lowest (IsOutside k (fields_of bs)) f
+Applies x bs (Err OutOfOrder) = (k : Kind) × IsA k bs × ((j : Kind) × (rank_of k < rank_of j) × (0 < length (list_of j x)))
+Applies x bs (Err NoRoom) = (k : Kind) × IsA k bs × (room_of k ≤ length (list_of k x))
+Applies x bs (Err (NotThere f)) = (k : Kind) × IsA k bs × Lowest (IsNotThere (counts_of x) k (fields_of bs)) f
+Applies x bs (Err (Misplaced f)) =
     IsA kind.Place bs × ((Closed x × (f ≡ 0)) ⊎ ((Closed x → ⊥) × MarkMisplaced x bs × (f ≡ 4)))
-Applies x bs WrongWayIn = IsA kind.Place bs × WayInWrong x bs
+Applies x bs (Err WrongWayIn) = IsA kind.Place bs × WayInWrong x bs
 
 -- a is the first refusal that applies, in document 01's order
 pub record IsFirst (x : Items) (bs : List ℕ) (a : Answer) : Type 0 where

@@ -1,5 +1,5 @@
 -- A case that is written is taken in again, record by record, and is the same case, all of it. Assumes nothing.
-use Rattle.std.specs.Prelude.{◌≡◌, refl, List, [], ◌∷◌, ◌++◌, map, Bool, true, false, cond, ltb, length, take}
+use Rattle.std.specs.Prelude.{◌≡◌, refl, List, [], ◌∷◌, ◌++◌, map, Bool, true, false, cond, ltb, length, take, Ok}
 use Rattle.std.proofs.Common.{◌∙◌, sym, ap, ap₂, subst₂, ⊎_elim, append-nil, append_assoc, add-one, arith, length-append, take-suc, take_all, lt-ltb, le-ltb, ltb-true}
 use Rattle.std.proofs.Math.Path.{subst}
 use Rattle.std.proofs.lemmas.List.{map-append}
@@ -17,14 +17,12 @@ use Rattle.items.specs.Items.{Item, row_of}
 use Rattle.items.specs.Lists.{Items, list_of, no_item}
 use Rattle.items.specs.Laws.{list_by, items_same}
 use Rattle.items.specs.File.{item_bytes, file_of}
-use Rattle.answers.specs.declared.Answer.TheVariants.{Taken}
 use Rattle.answers.specs.Answers.{is_taken}
 use Rattle.rules.specs.Files.{item_count}
 use Rattle.rules.specs.Rules.{Applies}
 use Rattle.collector.specs.declared.Case.{Case}
-use Rattle.collector.specs.declared.Collected.{Collected}
+use Rattle.collector.specs.Taking.{Collected, taken_of, collected_from, collected_of}
 use Rattle.collector.specs.Cases.{added, items_of, case_of, empty_case}
-use Rattle.collector.specs.Taking.{taken_of, collected_from, collected_of}
 use Rattle.collector.specs.Sound.{Sound, reach}
 use Rattle.rules_laws.specs.Held.{added_same, added_other, items_with_lem, counted, empty_list, taken_with}
 use Rattle.rules_laws.specs.First.{answers_first}
@@ -40,7 +38,7 @@ collected_is : (bs : List ℕ) → collected_of empty_case bs ≡ collected_from
 unfolding collected_of
 collected_is bs = refl
 
-collected_none : (d : Case) (m : ℕ) → collected_from d m [] ≡ record { case = d; answer = Taken; taken = m }
+collected_none : (d : Case) (m : ℕ) → collected_from d m [] ≡ record { case = d; answer = Ok tt; taken = m }
 unfolding collected_from
 collected_none d m = refl
 
@@ -203,13 +201,13 @@ module _ (c : Case) (s : Sound c) where
   -- ---- its file
 
   -- taking in the file of the case from the empty case takes every record, and gives the same case, all of it
-  pub taken_again : collected_of empty_case (file_of (items_of c)) ≡ record { case = c; answer = Taken; taken = item_count (items_of c) }
-  taken_again = r ∙ (λ i. record { case = same_case i; answer = Taken; taken = all_taken i })
+  pub taken_again : collected_of empty_case (file_of (items_of c)) ≡ record { case = c; answer = Ok tt; taken = item_count (items_of c) }
+  taken_again = r ∙ (λ i. record { case = same_case i; answer = Ok tt; taken = all_taken i })
     where
       t : Takes empty_case (gather block all_kinds) (part (items_of c) (below (length all_kinds)))
       t = kinds_lead (length all_kinds) (omega arith) empty_case sound_empty empty_holds
 
-      r : collected_of empty_case (file_of (items_of c)) ≡ record { case = t.case; answer = Taken; taken = 0 + length (gather block all_kinds) }
+      r : collected_of empty_case (file_of (items_of c)) ≡ record { case = t.case; answer = Ok tt; taken = 0 + length (gather block all_kinds) }
       r = collected_is (file_of (items_of c)) ∙ ap (collected_from empty_case 0) (cut_file (items_of c) (λ k i h. s.fit k i (omega (arith, counted c s k))) ∙ sym (append-nil (gather block all_kinds))) ∙ t.same 0 [] ∙ collected_none t.case _
 
       same_case : t.case ≡ c

@@ -9,8 +9,7 @@ use Rattle.kinds.specs.declared.Kind.{Kind}
 use Rattle.kinds.specs.Kinds.{letter_of}
 use Rattle.items.specs.Items.{item_of}
 use Rattle.items.specs.Lists.{list_of}
-use Rattle.answers.specs.declared.Answer.{Answer}
-use Rattle.answers.specs.Answers.{is_taken}
+use Rattle.answers.specs.Answers.{is_taken, Answer}
 use Rattle.rules.specs.Rules.{Applies}
 use Rattle.items.specs.Laws.{list_by, items_same}
 use Rattle.rules.specs.Files.{rows_of, spelled_by, AllTaken}

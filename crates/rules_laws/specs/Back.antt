@@ -20,9 +20,8 @@ use Rattle.items.specs.Lists.{Items, list_of}
 use Rattle.items.specs.File.{item_bytes, kind_bytes, file_of}
 use Rattle.answers.specs.Answers.{is_taken}
 use Rattle.collector.specs.declared.Case.{Case}
-use Rattle.collector.specs.declared.Collected.{Collected}
+use Rattle.collector.specs.Taking.{Collected, taken_of, collected_from, collected_of}
 use Rattle.collector.specs.Cases.{added, items_of, empty_case}
-use Rattle.collector.specs.Taking.{taken_of, collected_from, collected_of}
 use Rattle.collector.specs.Sound.{Sound}
 use Rattle.collector.proofs.Laws.{cut_end, cut_next}
 use Rattle.rules_laws.specs.Held.{added_same, added_other, counted, items_with_lem, empty_list, refused_same, taken_with}

@@ -1,6 +1,6 @@
 -- What one place more does to the drifts that are kept beside the items: nothing but for the loop that it closes, with whose first place what its moves add
 -- up to is kept from then on. Assumes nothing.
-use Rattle.std.specs.Prelude.{◌≡◌, ◌⊎◌, List, [], ◌∷◌, ◌++◌, Bool, ℕ, ◌+◌, ◌-◌, ◌≤◌, ◌<◌, length, replicate}
+use Rattle.std.specs.Prelude.{◌≡◌, List, [], ◌∷◌, ◌++◌, Bool, ℕ, ◌+◌, ◌-◌, ◌≤◌, ◌<◌, length, replicate, None, Some}
 use Rattle.std.proofs.Math.Path.{refl, sym, ap}
 use Rattle.std.proofs.Common.{◌∙◌, ⊎_elim, arith}
 use Rattle.std.proofs.Math.Bool.{true, false, cond, true≢false}
@@ -10,8 +10,6 @@ use Rattle.laws.specs.Lists.{at_front}
 use Rattle.laws.specs.Tab.{tab_same, tab_set}
 use Rattle.kinds.specs.declared.Kind.TheVariants as kind
 use Rattle.counters.specs.Values.{values_same}
-use Rattle.items.specs.declared.Ref.{Ref}
-use Rattle.items.specs.declared.Ref.TheVariants as ref
 use Rattle.items.specs.declared.LoopMark.{LoopMark}
 use Rattle.items.specs.declared.LoopMark.TheVariants as mark
 use Rattle.items.specs.declared.Move.{Move}
@@ -25,13 +23,14 @@ use Rattle.collector.specs.Cases.{filled, kept_with, drifts_of, round_from}
 use Rattle.collector.specs.Sound.{LoopsApart}
 use Rattle.collector.proofs.Drifts.{once_same, kept_none, kept_open, kept_closed}
 use Rattle.rules_laws.specs.Loops.{past_mark, marked?, ends, ends_only, old_mark, new_mark, long, where?}
+use Rattle.items.specs.Items.{Ref}
 
 -- ---- the arrays of a case add what its items do
 
 pub move_filled : (ts : List Move) (n : ℕ) (r : Ref) → move_at (ts ++ replicate n (no_item kind.Move)) r ≡ move_at ts r
 unfolding move_at
-move_filled ts n ref.None = refl
-move_filled ts n (ref.At t) = at_front (no_item kind.Move) ts n t
+move_filled ts n None = refl
+move_filled ts n (Some t) = at_front (no_item kind.Move) ts n t
 
 by_filled : (x : Items) (w : Way) → move_by (items_by (filled x)) w ≡ move_by x w
 by_filled x w =

@@ -1,6 +1,6 @@
 -- A case is its items: what one item more does to them, over the kind.
 -- Nothing above this speaks of the room that is left. Assumes nothing.
-use Rattle.std.specs.Prelude.{◌≡◌, List, [], ◌∷◌, ◌++◌, Bool, true, false, ◌&&◌, ◌||◌, ℕ, suc, ◌+◌, ◌-◌, ◌≤◌, ◌<◌, eqb, leb, ltb, length, take, set, replicate, get_or}
+use Rattle.std.specs.Prelude.{◌≡◌, List, [], ◌∷◌, ◌++◌, Bool, true, false, ◌&&◌, ◌||◌, ℕ, suc, ◌+◌, ◌-◌, ◌≤◌, ◌<◌, eqb, leb, ltb, length, take, set, replicate, get_or, Err, Ok}
 use Rattle.std.proofs.Math.Path.{refl, ap}
 use Rattle.std.proofs.Common.{◌∙◌, sym, ap₂, subst, true≢false, arith, length-append, leb-false}
 use Rattle.std.proofs.Math.Bool.{cond}
@@ -23,15 +23,13 @@ use Rattle.items.specs.declared.LoopMark.TheVariants as mark
 use Rattle.items.specs.Items.{Item, item_of, place_of}
 use Rattle.items.specs.Lists.{Items, list_of, items_by, counts_of, room_of, no_item}
 use Rattle.items.specs.Laws.{list_by, items_same, counted_of}
-use Rattle.answers.specs.declared.Answer.TheVariants.{Taken, Misspelled, Misfilled, OutOfRange, OutOfOrder, NoRoom, NotThere, Misplaced, WrongWayIn}
+use Rattle.answers.specs.declared.Refusal.TheVariants.{Misspelled, Misfilled, OutOfRange, OutOfOrder, NoRoom, NotThere, Misplaced, WrongWayIn}
 use Rattle.answers.specs.Answers.{is_taken}
 use Rattle.answers.specs.Laws.{passed, both_take}
 use Rattle.checks.specs.declared.Fault.{Fault}
 use Rattle.checks.specs.declared.Fault.TheVariants as fault
-use Rattle.checks.specs.declared.Head.{Head}
-use Rattle.checks.specs.declared.Head.TheVariants.{Of, Refused}
 use Rattle.checks.specs.Faults.{fault_at, lowest_fault}
-use Rattle.checks.specs.Input.{bad_place, wrong_form, range_answer, extra_answer, missing_answer, form_answer, fields_answer, head_of}
+use Rattle.checks.specs.Input.{bad_place, wrong_form, range_answer, extra_answer, missing_answer, form_answer, fields_answer, head_of, Head}
 use Rattle.rules.specs.Rules.{IsA, length_of}
 use Rattle.standing.specs.declared.Loops.{Loops}
 use Rattle.standing.specs.Standing.{no_loops, loops_after, loops_from, record_answer, order_answer, room_answer, there_answer, layout_answer, place_answer, mark_answer, way_answer, is_closed, is_open, is_long, is_loop_end}
@@ -238,8 +236,8 @@ empty_list k = ap (list_of k) (items_of_lem (items_by (λ k. []))) ∙ list_by (
 -- it leaves the whole case as it was
 same_by : (c : Case) (bs : List ℕ) (h : Head) → is_taken (taken_by c h bs).answer ≡ false → (taken_by c h bs).case ≡ c
 unfolding taken_as
-same_by c bs (Of k) e = ap (λ t. cond t (with c k (record_of bs).fields) c) e
-same_by c bs (Refused a) e = refl
+same_by c bs (Ok k) e = ap (λ t. cond t (with c k (record_of bs).fields) c) e
+same_by c bs (Err a) e = refl
 
 pub refused_same : (c : Case) (bs : List ℕ) → is_taken (taken_of c bs).answer ≡ false → (taken_of c bs).case ≡ c
 unfolding taken_of
@@ -277,11 +275,11 @@ fit_is k bs l e =
     let s = shape_of k r in
     let low : Fault → ℕ = λ f. lowest_fault f s r in
     let none : (f : Fault) → leb (low f) fields ≡ false → (g : ℕ) → fault_at f s r g ≡ false = λ f h. fault_none f s bs (leb-false (low f) fields h) in
-    let p0 = passed (leb (low fault.Misspelled) fields) (Misspelled (bad_place r (low fault.Misspelled))) (form_answer s r) refl e in
-    let p1 = passed (wrong_form s r) (OutOfRange 1) (missing_answer s r) refl p0.1 in
-    let p2 = passed (leb (low fault.Missing) fields) (Misfilled (low fault.Missing)) (extra_answer s r) refl p1.1 in
-    let p3 = passed (leb (low fault.Extra) fields) (Misfilled (low fault.Extra)) (range_answer s r) refl p2.1 in
-    let p4 = passed (leb (low fault.OutOfRange) fields) (OutOfRange (low fault.OutOfRange)) Taken refl p3.1 in
+    let p0 = passed (leb (low fault.Misspelled) fields) (Err (Misspelled (bad_place r (low fault.Misspelled)))) (form_answer s r) refl e in
+    let p1 = passed (wrong_form s r) (Err (OutOfRange 1)) (missing_answer s r) refl p0.1 in
+    let p2 = passed (leb (low fault.Missing) fields) (Err (Misfilled (low fault.Missing))) (extra_answer s r) refl p1.1 in
+    let p3 = passed (leb (low fault.Extra) fields) (Err (Misfilled (low fault.Extra))) (range_answer s r) refl p2.1 in
+    let p4 = passed (leb (low fault.OutOfRange) fields) (Err (OutOfRange (low fault.OutOfRange))) (Ok tt) refl p3.1 in
     record {
       long = length_row bs;
       spelled = all_spelled bs l (λ g. tells_not _ (tells_bad r.fields g) (none fault.Misspelled p0.0 g));
@@ -293,9 +291,9 @@ fit_is k bs l e =
 place_is : (l : Loops) (n : ℕ) (r : List Field) → is_taken (place_answer l n r) ≡ true → Placed l n r
 unfolding place_answer mark_answer way_answer
 place_is l n r e =
-    let p0 = passed (is_closed l n) (Misplaced 0) (mark_answer l n r) refl e in
-    let p1 = passed (is_number (at r 4) && (is_open l n || is_long n (natural (at r 4)))) (Misplaced 4) (way_answer n r) refl p0.1 in
-    let p2 = passed (cond (eqb n 0) (is_number (at r 2)) (is_blank (at r 2))) WrongWayIn Taken refl p1.1 in
+    let p0 = passed (is_closed l n) (Err (Misplaced 0)) (mark_answer l n r) refl e in
+    let p1 = passed (is_number (at r 4) && (is_open l n || is_long n (natural (at r 4)))) (Err (Misplaced 4)) (way_answer n r) refl p0.1 in
+    let p2 = passed (cond (eqb n 0) (is_number (at r 2)) (is_blank (at r 2))) (Err WrongWayIn) (Ok tt) refl p1.1 in
     record { before = p0.0; mark = p1.0; way = p2.0 }
 
 next_is : (n : Counts) (l : Loops) (k : Kind) (bs : List ℕ) → is_taken (order_answer n l (shape_of k (record_of bs)) (record_of bs)) ≡ true → Next n l k (record_of bs)
@@ -304,9 +302,9 @@ next_is n l k bs e =
     let r = record_of bs in
     let s = shape_of k r in
     let m : ℕ = lowest_fault (fault.NotThere n) s r in
-    let p0 = passed (ltb (rank_of k) (last_rank n)) OutOfOrder (room_answer n l s r) refl e in
-    let p1 = passed (leb (room_of k) (count_of n k)) NoRoom (there_answer n l s r) refl p0.1 in
-    let p2 = passed (leb m fields) (NotThere m) (layout_answer k n l r.fields) refl p1.1 in
+    let p0 = passed (ltb (rank_of k) (last_rank n)) (Err OutOfOrder) (room_answer n l s r) refl e in
+    let p1 = passed (leb (room_of k) (count_of n k)) (Err NoRoom) (there_answer n l s r) refl p0.1 in
+    let p2 = passed (leb m fields) (Err (NotThere m)) (layout_answer k n l r.fields) refl p1.1 in
     record {
       order = tells_not _ (tells_last n (rank_of k)) p0.0;
       room = leb-false (room_of k) (count_of n k) p1.0;
@@ -315,15 +313,15 @@ next_is n l k bs e =
     }
 
 module _ (c : Case) (bs : List ℕ) where
-  -- a head that is refused is not taken, and another is that of a whole record with its kind's letter
+  -- a head that is not refused is that of a whole record with its kind's letter
   abbrev Headed : Head → Type 0
-  Headed (Of k) = (length bs ≡ record_length) × (get_or bs (record_length - 1) 0 ≡ line_feed) × IsA k bs
-  Headed (Refused a) = is_taken a ≡ false
+  Headed (Ok k) = (length bs ≡ record_length) × (get_or bs (record_length - 1) 0 ≡ line_feed) × IsA k bs
+  Headed (Err a) = Unit {0}
 
   taken_by_lem : (h : Head) → Headed h → head_of bs ≡ h → is_taken (taken_by c h bs).answer ≡ true → IsTaken c bs
   unfolding taken_of taken_as record_answer
-  taken_by_lem (Refused a) r e t = absurd (true≢false (sym t ∙ r))
-  taken_by_lem (Of k) r e t =
+  taken_by_lem (Err a) r e t = absurd (true≢false (sym t))
+  taken_by_lem (Ok k) r e t =
       let s = shape_of k (record_of bs) in
       let b = both_take (fields_answer s (record_of bs)) (order_answer c.count c.loops s (record_of bs)) t in
       record {
@@ -338,4 +336,4 @@ module _ (c : Case) (bs : List ℕ) where
 
   pub taken_with : is_taken (taken_of c bs).answer ≡ true → IsTaken c bs
   unfolding taken_of
-  taken_with = taken_by_lem (head_of bs) (by_head bs Headed (λ e. refl) (λ w e. refl) (λ w d e. refl) (λ w d k is. (w, d, is))) refl
+  taken_with = taken_by_lem (head_of bs) (by_head bs Headed (λ e. tt) (λ w e. tt) (λ w d e. tt) (λ w d k is. (w, d, is))) refl

@@ -1,5 +1,5 @@
 -- Every case that is made by taking records is sound: the empty one is, and taking a record keeps it so. Assumes nothing.
-use Rattle.std.specs.Prelude.{◌≡◌, refl, ◌↔◌, List, [], ◌∷◌, ◌++◌, Bool, true, false, cond, ◌&&◌, ◌||◌, ℕ, zero, suc, ◌+◌, ◌^◌, ◌≤◌, ◌<◌, ltb, eqb, pos, length, get_or}
+use Rattle.std.specs.Prelude.{◌≡◌, refl, ◌↔◌, List, [], ◌∷◌, ◌++◌, Bool, true, false, cond, ◌&&◌, ◌||◌, ℕ, zero, suc, ◌+◌, ◌^◌, ◌≤◌, ◌<◌, ltb, eqb, pos, length, get_or, None, Some}
 use Rattle.std.proofs.Common.{◌∙◌, sym, ap, subst, subst₂, inl, inr, ⊎_elim, true≢false, arith, ltb-false}
 use Rattle.std.proofs.Math.Nat.{pow-le-pow_right}
 use Rattle.std.proofs.Math.Decide.{dec_lt}
@@ -20,12 +20,10 @@ use Rattle.kinds.specs.Laws.{same_is, same_self, kind_at_lem, rank_below, later,
 use Rattle.kinds.specs.Contents.{natural, is_number, is_blank}
 use Rattle.table.specs.Sorts as sort
 use Rattle.table.specs.Table.{needed_if, in_filled, rule_at, shape_of}
-use Rattle.items.specs.declared.Ref.{Ref}
-use Rattle.items.specs.declared.Ref.TheVariants as ref
 use Rattle.items.specs.declared.LoopMark.{LoopMark}
 use Rattle.items.specs.declared.LoopMark.TheVariants as mark
 use Rattle.items.specs.declared.Place.{Place}
-use Rattle.items.specs.Items.{Item, item_of, place_of, row_of, reference}
+use Rattle.items.specs.Items.{Item, item_of, place_of, row_of, reference, Ref}
 use Rattle.items.specs.Lists.{Items, room_of, no_item, list_of}
 use Rattle.answers.specs.Answers.{is_taken}
 use Rattle.checks.specs.Faults.{outside}
@@ -113,11 +111,11 @@ field_two p = refl
 
 -- the tests of its way in, where n places are held
 way_at : (n : ℕ) (w : Ref) →
-    cond (eqb n 0) (is_number (reference w).content) (is_blank (reference w).content) ≡ false → (n ≡ 0) ↔ (w ≡ ref.None)
-way_at zero ref.None e = (λ z. refl, λ z. refl)
-way_at zero (ref.At a) e = absurd (true≢false e)
-way_at (suc n) ref.None e = absurd (true≢false (rw (eqb-suc-zero n) at e))
-way_at (suc n) (ref.At a) e = (λ z. absurd (omega arith), λ z. let o : ◌≡◌ {A = ℕ} 0 1 = cc in absurd (omega arith))
+    cond (eqb n 0) (is_number (reference w).content) (is_blank (reference w).content) ≡ false → (n ≡ 0) ↔ (w ≡ None)
+way_at zero None e = (λ z. refl, λ z. refl)
+way_at zero (Some a) e = absurd (true≢false e)
+way_at (suc n) None e = absurd (true≢false (rw (eqb-suc-zero n) at e))
+way_at (suc n) (Some a) e = (λ z. absurd (omega arith), λ z. let o : ◌≡◌ {A = ℕ} 0 1 = cc in absurd (omega arith))
 
 -- a length is not 0
 in_range : (b : Bool) (l : ℕ) → outside (needed_if b sort.LoopLength) (content.Number (pos l)) ≡ false → 0 < l
@@ -158,7 +156,7 @@ all_snoc P l x d n e old new i h =
 
 -- what a sound case has of its n places ps
 record Places (n : ℕ) (ps : List Place) : Type 0 where
-  ways : (i : ℕ) → i < n → (i ≡ 0) ↔ ((get_or ps i (no_item kind.Place)).way ≡ ref.None)
+  ways : (i : ℕ) → i < n → (i ≡ 0) ↔ ((get_or ps i (no_item kind.Place)).way ≡ None)
   loops : LoopsApart ps
 
 -- a kind but that of places comes before it
@@ -182,14 +180,14 @@ module _ (l : Loops) (n : ℕ) (p : Place) (h : n < room_of kind.Place) (f : Fit
       let q : at (row_of kind.Place p) 4 ≡ length_field p.mark = field_four p.state p.way p.marks p.mark in
       mark_fits l n p.mark h t.before (rw q at t.mark) (λ j g. long_enough (row_of kind.Place p) f j (q ∙ g))
 
-  comes_by : (n ≡ 0) ↔ (p.way ≡ ref.None)
+  comes_by : (n ≡ 0) ↔ (p.way ≡ None)
   comes_by = way_at n p.way (rw (field_two p) at t.way)
 
 one_place : (n : ℕ) (ps : List Place) (p : Place) → length ps ≡ n → n < room_of kind.Place → Places n ps →
-    (n ≡ 0) ↔ (p.way ≡ ref.None) → MarkMayCome (loops_from no_loops 0 ps) n p.mark → Places (n + 1) (ps ++ (p ∷ []))
+    (n ≡ 0) ↔ (p.way ≡ None) → MarkMayCome (loops_from no_loops 0 ps) n p.mark → Places (n + 1) (ps ++ (p ∷ []))
 one_place n ps p e h s w m =
     record {
-      ways = all_snoc (λ i (q : Place). (i ≡ 0) ↔ (q.way ≡ ref.None)) ps p (no_item kind.Place) n e s.ways w;
+      ways = all_snoc (λ i (q : Place). (i ≡ 0) ↔ (q.way ≡ None)) ps p (no_item kind.Place) n e s.ways w;
       loops = apart_snoc ps p s.loops (subst (λ j. MarkMayCome (loops_from no_loops 0 ps) j p.mark) (sym e) m) (omega arith);
     }
 

@@ -1,5 +1,5 @@
 -- The kind letter of a record, and its head, case by case. Assumes nothing.
-use Rattle.std.specs.Prelude.{◌≡◌, ℕ, ◌-◌, eqb, length, get_or}
+use Rattle.std.specs.Prelude.{◌≡◌, ℕ, ◌-◌, eqb, length, get_or, Err, None, Ok, Some}
 use Rattle.std.proofs.Math.Path.{refl}
 use Rattle.std.proofs.Common.{◌∙◌, sym, arith}
 use mathlib.Core.List.{List, [], ◌∷◌}
@@ -7,32 +7,28 @@ use borrow.Author.Tests.{eqb-true, eqb-false}
 use Rattle.laws.specs.Tests.{cond_by}
 use Rattle.record.specs.Layout.{record_length, line_feed}
 use Rattle.kinds.specs.declared.Kind.{Kind}
-use Rattle.kinds.specs.declared.Letter.{Letter}
-use Rattle.kinds.specs.declared.Letter.TheVariants.{Names, Unknown}
-use Rattle.kinds.specs.Kinds.{letter_of, all_kinds, kind_in, kind_of}
+use Rattle.kinds.specs.Kinds.{letter_of, all_kinds, kind_in, kind_of, Letter}
 use Rattle.kinds.specs.Laws.{kind_named}
-use Rattle.answers.specs.declared.Answer.TheVariants.{NotARecord, NoLineFeed, NoSuchKind}
-use Rattle.checks.specs.declared.Head.{Head}
-use Rattle.checks.specs.declared.Head.TheVariants.{Of, Refused}
-use Rattle.checks.specs.Input.{named_head, ended_head, head_of}
+use Rattle.answers.specs.declared.Refusal.TheVariants.{NotARecord, NoLineFeed, NoSuchKind}
+use Rattle.checks.specs.Input.{named_head, ended_head, head_of, Head}
 use Rattle.rules.specs.Rules.{IsA}
 
 -- b is the letter of the kind that it is said to name
 abbrev Reads : ℕ → Letter → Type 0
-Reads b (Names k) = b ≡ letter_of k
-Reads b Unknown = Unit {0}
+Reads b (Some k) = b ≡ letter_of k
+Reads b None = Unit {0}
 
 module _ (b : ℕ) where
-  unnamed : kind_of b ≡ Unknown → (k : Kind) → b ≡ letter_of k → ⊥
+  unnamed : kind_of b ≡ None → (k : Kind) → b ≡ letter_of k → ⊥
   unnamed e k q =
-      let d : Names k ≡ Unknown = sym (kind_named b k q) ∙ e in
+      let d : Some k ≡ None = sym (kind_named b k q) ∙ e in
       let z : ◌≡◌ {A = ℕ} 0 1 = cc in
       omega arith
 
   reads : (ks : List Kind) → Reads b (kind_in ks b)
   unfolding kind_in
   reads [] = tt
-  reads (k ∷ ks) = cond_by (Reads b) (eqb b (letter_of k)) {x = Names k} {y = kind_in ks b} (eqb-true b (letter_of k)) (λ e. reads ks)
+  reads (k ∷ ks) = cond_by (Reads b) (eqb b (letter_of k)) {x = Some k} {y = kind_in ks b} (eqb-true b (letter_of k)) (λ e. reads ks)
 
 -- what is true of every head that a record may get is true of its own
 module _ (bs : List ℕ) (P : Head → Type 0) where
@@ -44,20 +40,20 @@ module _ (bs : List ℕ) (P : Head → Type 0) where
   Ended = get_or bs (record_length - 1) 0 ≡ line_feed
 
   by_letter : (l : Letter) → kind_of (get_or bs 0 0) ≡ l → Reads (get_or bs 0 0) l →
-      (((k : Kind) → IsA k bs → ⊥) → P (Refused NoSuchKind)) → ((k : Kind) → IsA k bs → P (Of k)) → P (named_head l)
-  by_letter (Names k) e r none some = some k r
-  by_letter Unknown e r none some = none (unnamed (get_or bs 0 0) e)
+      (((k : Kind) → IsA k bs → ⊥) → P (Err NoSuchKind)) → ((k : Kind) → IsA k bs → P (Ok k)) → P (named_head l)
+  by_letter (Some k) e r none some = some k r
+  by_letter None e r none some = none (unnamed (get_or bs 0 0) e)
 
-  pub by_head : ((Whole → ⊥) → P (Refused NotARecord)) →
-      (Whole → (Ended → ⊥) → P (Refused NoLineFeed)) →
-      (Whole → Ended → ((k : Kind) → IsA k bs → ⊥) → P (Refused NoSuchKind)) →
-      (Whole → Ended → (k : Kind) → IsA k bs → P (Of k)) → P (head_of bs)
+  pub by_head : ((Whole → ⊥) → P (Err NotARecord)) →
+      (Whole → (Ended → ⊥) → P (Err NoLineFeed)) →
+      (Whole → Ended → ((k : Kind) → IsA k bs → ⊥) → P (Err NoSuchKind)) →
+      (Whole → Ended → (k : Kind) → IsA k bs → P (Ok k)) → P (head_of bs)
   unfolding head_of ended_head
   by_head short unended none some =
-      cond_by P (eqb (length bs) record_length) {x = ended_head bs} {y = Refused NotARecord}
+      cond_by P (eqb (length bs) record_length) {x = ended_head bs} {y = Err NotARecord}
       (λ e.
       let w = eqb-true (length bs) record_length e in
-      cond_by P (eqb (get_or bs (record_length - 1) 0) line_feed) {x = named_head (kind_of (get_or bs 0 0))} {y = Refused NoLineFeed}
+      cond_by P (eqb (get_or bs (record_length - 1) 0) line_feed) {x = named_head (kind_of (get_or bs 0 0))} {y = Err NoLineFeed}
       (λ f.
       let d = eqb-true (get_or bs (record_length - 1) 0) line_feed f in
       by_letter (kind_of (get_or bs 0 0)) refl (reads (get_or bs 0 0) all_kinds) (none w d) (some w d))

@@ -17,9 +17,8 @@ use Rattle.items.specs.Lists.{list_of, items_by}
 use Rattle.answers.specs.Answers.{is_taken}
 use Rattle.rules.specs.Files.{rows_of, spelled_by, item_count}
 use Rattle.collector.specs.declared.Case.{Case}
-use Rattle.collector.specs.declared.Collected.{Collected}
+use Rattle.collector.specs.Taking.{Collected, taken_of, collected_from, collected_of}
 use Rattle.collector.specs.Cases.{items_of, one_more, empty_case}
-use Rattle.collector.specs.Taking.{taken_of, collected_from, collected_of}
 use Rattle.rules_laws.specs.Fields.{fields_again}
 use Rattle.collector.specs.Sound.{Sound}
 use Rattle.rules_laws.specs.Held.{IsTaken, same_kind, other_list, counts_are, empty_list, taken_with}

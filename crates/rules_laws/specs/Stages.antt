@@ -1,5 +1,5 @@
 -- How an answer is shown to be the first that applies: the refusals are passed one after another, in the order of the tests. Assumes nothing.
-use Rattle.std.specs.Prelude.{◌≡◌, refl, ◌⊎◌, List, [], ◌∷◌, Bool, true, false, cond, ◌||◌, ℕ, zero, suc, ◌≤◌, ◌<◌, leb, length, get_or}
+use Rattle.std.specs.Prelude.{◌≡◌, refl, ◌⊎◌, List, [], ◌∷◌, Bool, true, false, cond, ◌||◌, ℕ, zero, suc, ◌≤◌, ◌<◌, leb, length, get_or, Ok}
 use Rattle.std.proofs.Common.{◌∙◌, sym, ap, subst, inr, true≢false, eq-or-lt_of_le, le_of_suc-le-suc}
 use Rattle.std.proofs.Math.Logic.{⊎_elim}
 use native.Mathlib.Omega.{arith}
@@ -25,9 +25,7 @@ use Rattle.table.specs.Sorts.{Form}
 use Rattle.table.specs.declared.Shape.{Shape}
 use Rattle.table.specs.Table.{form_rows, rules_of, rule_at, in_filled}
 use Rattle.items.specs.Lists.{Items}
-use Rattle.answers.specs.declared.Answer.{Answer}
-use Rattle.answers.specs.declared.Answer.TheVariants.{Taken}
-use Rattle.answers.specs.Answers.{number_of, third_of, test_order, turn_of, is_taken}
+use Rattle.answers.specs.Answers.{number_of, third_of, test_order, turn_of, is_taken, Answer}
 use Rattle.answers.specs.Laws.{in_order, taken_is}
 use Rattle.checks.specs.declared.Fault.{Fault}
 use Rattle.checks.specs.declared.Fault.TheVariants as fault
@@ -116,7 +114,7 @@ module _ (f : Fault) (s : Shape) (bs : List ℕ) where
 
 -- the answer with number n and third number f; Taken where no refusal has that number
 abbrev pub numbered : ℕ → ℕ → Answer
-numbered n f = get_or (test_order f) (turn_of n) Taken
+numbered n f = get_or (test_order f) (turn_of n) (Ok tt)
 
 -- ---- the first refusal that applies
 
@@ -130,7 +128,7 @@ module _ (x : Items) (bs : List ℕ) where
   Ends n a = ((is_taken a ≡ true) × Passed n) ⊎ IsFirst x bs a
 
   pub renumbered : (a : Answer) (n : ℕ) → turn_of (number_of a) ≡ turn_of n → Applies x bs a → Applies x bs (numbered n (third_of a))
-  renumbered a n e = subst (Applies x bs) (sym (in_order a) ∙ ap (λ i. get_or (test_order (third_of a)) i Taken) e)
+  renumbered a n e = subst (Applies x bs) (sym (in_order a) ∙ ap (λ i. get_or (test_order (third_of a)) i (Ok tt)) e)
 
   -- nothing is tested before 11
   pub start : Passed 11
@@ -147,7 +145,7 @@ module _ (x : Items) (bs : List ℕ) where
   unfolding lowest
   none p a w =
       ⊎_elim (λ e. renumbered a 0 e w) (λ l. p a l w)
-      (eq-or-lt_of_le (lowest_is (λ i. eqb (number_of (get_or (test_order 0) i Taken)) (number_of a)) (turn_of 0) 0).within)
+      (eq-or-lt_of_le (lowest_is (λ i. eqb (number_of (get_or (test_order 0) i (Ok tt))) (number_of a)) (turn_of 0) 0).within)
 
   pub first : (a : Answer) → Passed (number_of a) → Applies x bs a → IsFirst x bs a
   first a p w = record { applies = w; earlier = p }

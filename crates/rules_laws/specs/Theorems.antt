@@ -1,6 +1,6 @@
 -- What is proved of taking records: start here. The rules and the case that a file spells are in the crate rules; the invariant, and `taken_of` and
 -- `collected_of`, with which the code's promises are equations, in the crate collector; how fields are spelled in record_laws. Assumes nothing.
-use Rattle.std.specs.Prelude.{◌≡◌, ◌↔◌, ◌⊎◌, List, [], ◌∷◌, ◌++◌, true, false, ℕ, ◌+◌, ◌*◌, ◌<◌, ℤ, length, get_or, take}
+use Rattle.std.specs.Prelude.{◌≡◌, ◌↔◌, ◌⊎◌, List, [], ◌∷◌, ◌++◌, true, false, ℕ, ◌+◌, ◌*◌, ◌<◌, ℤ, length, get_or, take, Err, Ok}
 use Rattle.std.proofs.Common.{◌∙◌, sym, ap}
 use Rattle.laws.specs.Tests.{cond_by}
 use Rattle.record.specs.declared.Content.TheVariants.{Number}
@@ -14,15 +14,13 @@ use Rattle.table.specs.Sorts.{Bound}
 use Rattle.items.specs.Items.{item_of, row_of}
 use Rattle.items.specs.Lists.{Items, list_of, no_item}
 use Rattle.items.specs.File.{CanSpell, record_bytes, file_of}
-use Rattle.answers.specs.declared.Answer.{Answer}
-use Rattle.answers.specs.declared.Answer.TheVariants.{Taken, OutOfRange}
-use Rattle.answers.specs.Answers.{is_taken}
+use Rattle.answers.specs.declared.Refusal.TheVariants.{OutOfRange}
+use Rattle.answers.specs.Answers.{is_taken, Answer}
 use Rattle.rules.specs.Rules.{IsA, InRange, Applies, IsFirst}
 use Rattle.rules.specs.Files.{spelled, item_count, AllTaken}
 use Rattle.collector.specs.declared.Case.{Case}
-use Rattle.collector.specs.declared.Collected.{Collected}
+use Rattle.collector.specs.Taking.{Collected, taken_of, collected_from, collected_of}
 use Rattle.collector.specs.Cases.{empty_case, case_of, items_of}
-use Rattle.collector.specs.Taking.{taken_of, collected_from, collected_of}
 use Rattle.collector.specs.Sound.{Sound}
 use Rattle.rules_laws.specs.Fields.{fields_again}
 use Rattle.rules_laws.specs.Held.{same_kind, other_kind, refused_same, taken_with}
@@ -112,7 +110,7 @@ pub item_spelled : (c : Case) → Sound c → (k : Kind) (i : ℕ) → i < count
 item_spelled c s k i h = (can_spell (s.fit k i h), record_reads (s.fit k i h))
 
 -- the file of a sound case is taken in again: from the empty case every record is taken, and the case is the same, all of it
-pub file_again : (c : Case) → Sound c → collected_of empty_case (file_of (items_of c)) ≡ record { case = c; answer = Taken; taken = item_count (items_of c) }
+pub file_again : (c : Case) → Sound c → collected_of empty_case (file_of (items_of c)) ≡ record { case = c; answer = Ok tt; taken = item_count (items_of c) }
 file_again = taken_again
 
 -- so by the rules all its records are taken, and it spells the case's items
@@ -141,5 +139,5 @@ pub bounds : (bs : List ℕ) → length bs ≡ width → (z : ℤ) → content_o
 bounds bs l z e = (spellable_range z).0 (one_spelling bs z l e).1
 
 -- and so may a starting weight: 16 applies to no record of them
-pub no_16_for_weights : (bs : List ℕ) → length bs ≡ record_length → IsA kind.Weights bs → (x : Items) (f : ℕ) → Applies x bs (OutOfRange f) → ⊥
+pub no_16_for_weights : (bs : List ℕ) → length bs ≡ record_length → IsA kind.Weights bs → (x : Items) (f : ℕ) → Applies x bs (Err (OutOfRange f)) → ⊥
 no_16_for_weights = no_16

@@ -1,5 +1,5 @@
 -- No refusal applies to the record of an item of a sound case, where the items before it are held. Assumes nothing.
-use Rattle.std.specs.Prelude.{◌≡◌, ◌⊎◌, List, Bool, true, false, cond, ℕ, ◌≤◌, ◌<◌, ltb, length, get_or, take}
+use Rattle.std.specs.Prelude.{◌≡◌, List, Bool, true, false, cond, ℕ, ◌≤◌, ◌<◌, ltb, length, get_or, take, Err, None, Ok, Some}
 use Rattle.std.proofs.Math.Path.{refl}
 use Rattle.std.proofs.Common.{◌∙◌, sym, ap, subst, subst₂, ⊎_elim, true≢false, arith, length-take, get_or-take, length-take-le, le-ltb}
 use Rattle.std.proofs.lemmas.Bool.{false≢true}
@@ -9,20 +9,17 @@ use Rattle.record.specs.Layout.{at}
 use Rattle.kinds.specs.declared.Kind.{Kind}
 use Rattle.kinds.specs.declared.Kind.TheVariants as kind
 use Rattle.kinds.specs.declared.Counts.{Counts}
-use Rattle.kinds.specs.Kinds.{letter_of, rank_of, count_of, same}
+use Rattle.kinds.specs.Kinds.{letter_of, rank_of, count_of}
 use Rattle.kinds.specs.Laws.{one_kind, by_kind, counts_same}
 use Rattle.kinds.specs.Contents.{natural}
-use Rattle.items.specs.declared.Ref.{Ref}
-use Rattle.items.specs.declared.Ref.TheVariants as ref
 use Rattle.items.specs.declared.LoopMark.{LoopMark}
 use Rattle.items.specs.declared.LoopMark.TheVariants as mark
 use Rattle.items.specs.declared.Place.{Place}
-use Rattle.items.specs.Items.{Item, row_of, reference}
+use Rattle.items.specs.Items.{Item, row_of, reference, Ref}
 use Rattle.items.specs.Lists.{Items, list_of, items_by, counts_of, room_of, no_item}
 use Rattle.items.specs.Laws.{list_by, counted_of}
 use Rattle.items.specs.File.{record_bytes, item_bytes}
-use Rattle.answers.specs.declared.Answer.{Answer}
-use Rattle.answers.specs.declared.Answer.TheVariants.{Taken, NotARecord, NoLineFeed, NoSuchKind, Misspelled, Misfilled, OutOfRange, OutOfOrder, NoRoom, NotThere, Misplaced, WrongWayIn}
+use Rattle.answers.specs.declared.Refusal.TheVariants.{NotARecord, NoLineFeed, NoSuchKind, Misspelled, Misfilled, OutOfRange, OutOfOrder, NoRoom, NotThere, Misplaced, WrongWayIn}
 use Rattle.rules.specs.Rules.{IsA, fields_of, content_at, IsNumber, mark_at, length_of, is_endless, Closed, MarkMisplaced, WayInWrong, Applies, IsMissing, IsExtra, IsOutside, IsNotThere}
 use Rattle.collector.specs.declared.Case.{Case}
 use Rattle.collector.specs.Cases.{items_of}
@@ -33,6 +30,7 @@ use Rattle.rules_laws.specs.Held.{counted}
 use Rattle.rules_laws.specs.Loops.{marked_held}
 use Rattle.rules_laws.specs.Kept.{reach_own, reach_rest, length_field, field_two, field_four}
 use Rattle.rules_laws.specs.Written.{record_long, record_ends, record_reads}
+use Rattle.answers.specs.Answers.{Answer}
 
 -- ---- the first items of each kind
 
@@ -66,9 +64,9 @@ number_marks mark.None n = absurd (false≢true ((tells_number content.Blank).1 
 number_marks (mark.Counted l r b) n = (λ e. let z : ◌≡◌ {A = ℕ} 0 1 = cc in omega arith, refl)
 number_marks (mark.Endless l b) n = (λ e. let z : ◌≡◌ {A = ℕ} 0 1 = cc in omega arith, refl)
 
-blank_way : (w : Ref) → (reference w).content ≡ content.Blank → w ≡ ref.None
-blank_way ref.None e = refl
-blank_way (ref.At n) e = absurd (false≢true ((tells_blank (reference (ref.At n)).content).1 e))
+blank_way : (w : Ref) → (reference w).content ≡ content.Blank → w ≡ None
+blank_way None e = refl
+blank_way (Some n) e = absurd (false≢true ((tells_blank (reference (Some n)).content).1 e))
 
 -- ---- the record of an item
 
@@ -179,18 +177,18 @@ module _ (c : Case) where
     comes a = subst (λ j. i < count_of c.count j → MayCome j i) (is kind.Place a) (place_comes s i) h
 
     pub none_applies : (a : Answer) → Applies y b a → ⊥
-    none_applies Taken e = e
-    none_applies NotARecord e = e (record_long (s.fit k i h))
-    none_applies NoLineFeed e = e (record_ends (s.fit k i h))
-    none_applies NoSuchKind e = e k letter
-    none_applies (Misspelled p) (f, g, l, w, q) = subst HasSpelling (bad_says b (record_long (s.fit k i h)) f g w) (fit.spelled f)
-    none_applies (Misfilled f) (j, a, o, e) =
+    none_applies (Ok tt) e = e
+    none_applies (Err NotARecord) e = e (record_long (s.fit k i h))
+    none_applies (Err NoLineFeed) e = e (record_ends (s.fit k i h))
+    none_applies (Err NoSuchKind) e = e k letter
+    none_applies (Err (Misspelled p)) (f, g, l, w, q) = subst HasSpelling (bad_says b (record_long (s.fit k i h)) f g w) (fit.spelled f)
+    none_applies (Err (Misfilled f)) (j, a, o, e) =
         ⊎_elim (λ l. fit.full f (subst (λ m. IsMissing m (fields_of b) f) (is j a) l.holds))
         (λ l. fit.bare f (subst (λ m. IsExtra m (fields_of b) f) (is j a) l.1.holds)) e
-    none_applies (OutOfRange f) (j, a, l) = fit.ranged f (subst (λ m. IsOutside m (fields_of b) f) (is j a) l.holds)
-    none_applies OutOfOrder (j, a, l) = none_later l.0 (subst (λ m. rank_of m < rank_of l.0) (is j a) l.1) l.2
-    none_applies NoRoom (j, a, l) =
+    none_applies (Err (OutOfRange f)) (j, a, l) = fit.ranged f (subst (λ m. IsOutside m (fields_of b) f) (is j a) l.holds)
+    none_applies (Err OutOfOrder) (j, a, l) = none_later l.0 (subst (λ m. rank_of m < rank_of l.0) (is j a) l.1) l.2
+    none_applies (Err NoRoom) (j, a, l) =
         omega (arith, subst (λ m. room_of m ≤ length (list_of m y)) (is j a) l, part_long x n within k, reach_own c.count k i, s.room k)
-    none_applies (NotThere f) (j, a, l) = there f (subst (λ m. IsNotThere (counts_of y) m (fields_of b) f) (is j a) l.holds)
-    none_applies (Misplaced f) (a, e) = ⊎_elim (λ q. (comes a).going q.0) (λ q. (comes a).marked q.1) e
-    none_applies WrongWayIn (a, e) = (comes a).way e
+    none_applies (Err (NotThere f)) (j, a, l) = there f (subst (λ m. IsNotThere (counts_of y) m (fields_of b) f) (is j a) l.holds)
+    none_applies (Err (Misplaced f)) (a, e) = ⊎_elim (λ q. (comes a).going q.0) (λ q. (comes a).marked q.1) e
+    none_applies (Err WrongWayIn) (a, e) = (comes a).way e

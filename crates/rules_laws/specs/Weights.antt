@@ -1,5 +1,5 @@
 -- Any number that a field can spell may be a starting weight: 16 applies to no record of them. Assumes nothing.
-use Rattle.std.specs.Prelude.{◌≡◌, refl, List, ℕ, zero, suc, ◌≤◌, length}
+use Rattle.std.specs.Prelude.{◌≡◌, refl, List, ℕ, zero, suc, ◌≤◌, length, Err}
 use Rattle.std.proofs.Common.{subst, inl, inr, arith}
 use Rattle.std.proofs.Math.Decide.{dec_lt}
 use Rattle.laws.specs.Lists.{nth, past_end, in_run}
@@ -14,7 +14,7 @@ use Rattle.table.specs.declared.Rule.TheVariants.{Blank, Needed}
 use Rattle.table.specs.Sorts.{Weight}
 use Rattle.table.specs.Table.{weights_row, shape_of, rule_at}
 use Rattle.items.specs.Lists.{Items}
-use Rattle.answers.specs.declared.Answer.TheVariants.{OutOfRange}
+use Rattle.answers.specs.declared.Refusal.TheVariants.{OutOfRange}
 use Rattle.rules.specs.Rules.{IsA, fields_of, Allows, InRange, IsOutside, Applies}
 use Rattle.rules_laws.specs.Bytes.{field_read}
 
@@ -48,5 +48,5 @@ module _ (bs : List ℕ) (l : length bs ≡ record_length) where
       let (q, p, h) = in_row s f a in
       n (subst (λ t. InRange t z) q ((spellable_range z).0 (((field_read bs l f p h).number z).0 e).1))
 
-  pub no_16 : IsA kind.Weights bs → (x : Items) (f : ℕ) → Applies x bs (OutOfRange f) → ⊥
+  pub no_16 : IsA kind.Weights bs → (x : Items) (f : ℕ) → Applies x bs (Err (OutOfRange f)) → ⊥
   no_16 w x f (k, a, o) = none_outside f (subst (λ j. IsOutside j (fields_of bs) f) (one_kind _ k kind.Weights a w) o.holds)

@@ -1,5 +1,5 @@
 -- Whether a record may stand after what is held: the loops so far, and the results that come from the state (21 to 26), each stage named.
-use Rattle.std.specs.Prelude.{List, [], ◌∷◌, Bool, true, false, cond, ◌&&◌, ◌||◌, ℕ, ◌+◌, eqb, leb, ltb}
+use Rattle.std.specs.Prelude.{List, [], ◌∷◌, Bool, true, false, cond, ◌&&◌, ◌||◌, ℕ, ◌+◌, eqb, leb, ltb, Err, Ok}
 use Rattle.record.specs.declared.Field.{Field}
 use Rattle.record.specs.declared.Record.{Record}
 use Rattle.record.specs.Layout.{at}
@@ -15,9 +15,8 @@ use Rattle.items.specs.declared.LoopMark.{LoopMark}
 use Rattle.items.specs.declared.LoopMark.TheVariants as mark
 use Rattle.items.specs.declared.Place.{Place}
 use Rattle.items.specs.Lists.{room_of}
-use Rattle.answers.specs.declared.Answer.{Answer}
-use Rattle.answers.specs.declared.Answer.TheVariants.{Taken, OutOfOrder, NoRoom, NotThere, Misplaced, WrongWayIn}
-use Rattle.answers.specs.Answers.{is_taken}
+use Rattle.answers.specs.declared.Refusal.TheVariants.{OutOfOrder, NoRoom, NotThere, Misplaced, WrongWayIn}
+use Rattle.answers.specs.Answers.{is_taken, Answer}
 use Rattle.checks.specs.declared.Fault.TheVariants as fault
 use Rattle.checks.specs.Faults.{lowest_fault}
 use Rattle.checks.specs.Input.{fields_answer, or_else}
@@ -64,31 +63,31 @@ is_barred l n r = is_number (at r 4) && (is_open l n || is_long n (natural (at r
 
 -- 26: field 2 filled at place 0, or blank later
 unfoldable pub way_answer : ℕ → List Field → Answer
-way_answer n r = cond (cond (eqb n 0) (is_number (at r 2)) (is_blank (at r 2))) WrongWayIn Taken
+way_answer n r = cond (cond (eqb n 0) (is_number (at r 2)) (is_blank (at r 2))) (Err WrongWayIn) (Ok tt)
 
 -- 25: a loop mark that may not stand there
 unfoldable pub mark_answer : Loops → ℕ → List Field → Answer
-mark_answer l n r = cond (is_barred l n r) (Misplaced 4) (way_answer n r)
+mark_answer l n r = cond (is_barred l n r) (Err (Misplaced 4)) (way_answer n r)
 
 -- 25: a place after the endless loop has closed
 unfoldable pub place_answer : Loops → ℕ → List Field → Answer
-place_answer l n r = cond (is_closed l n) (Misplaced 0) (mark_answer l n r)
+place_answer l n r = cond (is_closed l n) (Err (Misplaced 0)) (mark_answer l n r)
 
 -- 25 and 26 are of places alone
 abbrev pub layout_answer : Kind → Counts → Loops → List Field → Answer
-layout_answer k n l r = cond (same k kind.Place) (place_answer l n.places r) Taken
+layout_answer k n l r = cond (same k kind.Place) (place_answer l n.places r) (Ok tt)
 
 -- 23
 unfoldable pub there_answer : Counts → Loops → Shape → Record → Answer
-there_answer n l s r = or_else (lowest_fault (fault.NotThere n) s r) NotThere (layout_answer s.kind n l r.fields)
+there_answer n l s r = or_else (lowest_fault (fault.NotThere n) s r) (λ n. Err (NotThere n)) (layout_answer s.kind n l r.fields)
 
 -- 22
 unfoldable pub room_answer : Counts → Loops → Shape → Record → Answer
-room_answer n l s r = cond (leb (room_of s.kind) (count_of n s.kind)) NoRoom (there_answer n l s r)
+room_answer n l s r = cond (leb (room_of s.kind) (count_of n s.kind)) (Err NoRoom) (there_answer n l s r)
 
 -- 21: a kind after a later kind
 unfoldable pub order_answer : Counts → Loops → Shape → Record → Answer
-order_answer n l s r = cond (ltb (rank_of s.kind) (last_rank n)) OutOfOrder (room_answer n l s r)
+order_answer n l s r = cond (ltb (rank_of s.kind) (last_rank n)) (Err OutOfOrder) (room_answer n l s r)
 
 -- the answer to a record of kind k: 14 to 16, and where none applies 21 to 26
 unfoldable pub record_answer : Counts → Loops → Kind → Record → Answer

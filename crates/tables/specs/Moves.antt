@@ -4,7 +4,6 @@ use Rattle.std.proofs.Common.{◌∙◌, ap}
 use Rattle.kinds.specs.declared.Kind.TheVariants as kind
 use Rattle.counters.specs.declared.Counters.{Counters}
 use Rattle.counters.specs.Vectors.{value_at, vec, vec_of}
-use Rattle.items.specs.declared.Ref.{Ref}
 use Rattle.items.specs.declared.Move.{Move}
 use Rattle.items.specs.Lists.{room_of}
 use Rattle.collector.specs.declared.Case.{Case}
@@ -14,6 +13,7 @@ use Rattle.collector.proofs.Moves as moves
 use Rattle.rules_laws.specs.Held.{padded, long}
 use Rattle.rules_laws.specs.Drifts.{move_filled}
 use Rattle.meaning.specs.Run.{move_at, update}
+use Rattle.items.specs.Items.{Ref}
 
 -- the move that r names has number t, and v has the values f j
 module _ {c : Case} (s : Sound c) {t : ℕ} (r : Ref) (e : t ≡ slot_of r) {v : Counters} (f : ℕ → ℤ) (p : v ≡ vec_of f) where

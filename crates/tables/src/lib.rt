@@ -35,10 +35,9 @@ fn start(c: Case) -> Counters
     requires { Sound c }
     ensures { result ≡ vec_of (start_of (items_of c)) }
 {
-    let all = c.weights;
-    let weights = all[0];
-    let values = weights.at;
-    Counters { at: values }
+    Counters {
+        at: c.weights[0].at,
+    }
 }
 
 impl Tables {
@@ -47,32 +46,25 @@ impl Tables {
         requires { Sound c }
         ensures { result ≡ tables_of (items_of c) }
     {
+        // arrays of their own: where a loop reads c itself, all of it is copied
         let moves = c.moves;
         let places = c.places;
         let drifts = c.drifts;
         let mut firsts = [0u8; Case::PLACES];
         let mut bases = [counters::zero(); Case::PLACES];
         let mut v = start(c);
-        let mut q: usize = 0;
-        let mut p: usize = 0;
-        while p < c.count.places {
-            let place = places[p];
-            let way = place.way;
-            let t = collector::slot(way);
+        let mut q = 0;
+        for p in 0..c.count.places {
+            let t = collector::slot(places[p].way);
             if t < Case::MOVES {
-                let m = moves[t];
-                v = counters::plus(v, m.updates);
+                v = counters::plus(v, moves[t].updates);
             }
             firsts[p] = q as u8;
             bases[p] = v;
-            let first = places[q];
-            let mark = first.mark;
-            p = p + 1;
-            if q + rounds::stretch(mark) <= p {
-                let d = drifts[q];
-                let k = rounds::repeats(mark);
-                v = counters::more(v, k as i64, d);
-                q = p;
+            let mark = places[q].mark;
+            if q + rounds::stretch(mark) <= p + 1 {
+                v = counters::more(v, i64::from(rounds::repeats(mark)), drifts[q]);
+                q = p + 1;
             }
         }
         Tables {

@@ -18,18 +18,16 @@ pub fn held(src: &[u8]) -> Case
     ensures value { result ≡ (collected_of empty_case src.now).case }
     ensures sound { Sound result }
 {
-    let run = Case::empty().take_all(src);
-    run.case
+    let mut case = Case::empty();
+    let _ = case.take_all(src);
+    case
 }
 
 // The marks of one place after a file is taken. A benchmark reads them, so that the stores cannot be left out.
 pub fn marks_held(src: &[u8], i: usize) -> u32
     ensures { result ≡ marks_at (collected_of empty_case src.now).case i }
 {
-    let case = held(src);
-    let k = i % Case::PLACES;
-    let place = case.places[k];
-    place.marks
+    held(src).places[i % Case::PLACES].marks
 }
 
 // The three numbers of the answer to a file.
@@ -56,7 +54,7 @@ fn written(src: &[u8], buf: &mut [u8]) -> Told
     ensures value { result ≡ written_numbers (written_of (file_held src.now) (length buf.old)) }
     ensures buf_after { buf.new ≡ buffer_after (file_held src.now) buf.old }
 {
-    writer::write(held(src), buf).told()
+    Told::from(writer::write(held(src), buf))
 }
 
 // The same, for the first two of the numbers.
@@ -79,9 +77,7 @@ pub fn write_times(src: &[u8], buf: &mut [u8], n: usize)
     ensures { buf.new ≡ times n (buffer_after (file_held src.now)) buf.old }
 {
     let case = held(src);
-    let mut i: usize = 0;
-    while i < n {
-        writer::write(case, buf);
-        i = i + 1;
+    for _ in 0..n {
+        let _ = writer::write(case, buf);
     }
 }

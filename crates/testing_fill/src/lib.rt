@@ -19,7 +19,7 @@ pub extern "C" fn fill_bytes(src: &[u8], buf: &mut [u8]) -> usize
     ensures value { result ≡ (written_numbers (written_of (fill_output src.now) (length buf.old))).second }
     ensures buf_after { buf.new ≡ buffer_after (fill_output src.now) buf.old }
 {
-    tool::fill(src, buf).told().second
+    tool::fill(src, buf).unwrap_or(0)
 }
 
 // Fills in the marks of what is held after a file, and writes back the case that comes of it, filled or not: how many bytes.
@@ -28,11 +28,11 @@ pub extern "C" fn fill_kept(src: &[u8], buf: &mut [u8]) -> usize
     ensures value { result ≡ (written_numbers (written_of (file_kept src.now) (length buf.old))).second }
     ensures buf_after { buf.new ≡ buffer_after (file_kept src.now) buf.old }
 {
-    let filled = Draft {
+    let mut draft = Draft {
         case: testing::held(src),
-    }
-    .fill();
-    writer::write(filled.case, buf).told().second
+    };
+    let _ = draft.fill();
+    writer::write(draft.case, buf).unwrap_or(0)
 }
 
 // The marks of one place after what is held of a file is filled n times over, so that a benchmark can tell the filling from the taking.
@@ -40,14 +40,11 @@ pub extern "C" fn fill_kept(src: &[u8], buf: &mut [u8]) -> usize
 pub extern "C" fn fill_times(src: &[u8], n: usize, i: usize) -> u32
     ensures { result ≡ marks_at (times n kept (collected_of empty_case src.now).case) i }
 {
-    let mut case = testing::held(src);
-    let mut k: usize = 0;
-    while k < n {
-        let filled = Draft { case: case }.fill();
-        case = filled.case;
-        k = k + 1;
+    let mut draft = Draft {
+        case: testing::held(src),
+    };
+    for _ in 0..n {
+        let _ = draft.fill();
     }
-    let p = i % Case::PLACES;
-    let place = case.places[p];
-    place.marks
+    draft.case.places[i % Case::PLACES].marks
 }

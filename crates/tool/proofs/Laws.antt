@@ -1,23 +1,21 @@
 -- What is printed, by what is collected from a file and by what a word makes of the case. Assumes nothing.
-use mathlib.Core.Path.{◌≡◌, ◌∙◌, sym, ap}
+use Rattle.std.specs.Prelude.{Result, Ok, Err, is_ok}
+use mathlib.Core.Path.{◌≡◌, refl, ◌∙◌, sym, ap}
 use mathlib.Core.List.{List}
 use mathlib.Core.Bool.{Bool, true, false, cond}
 use Prim.Native.Nat.{ℕ, ◌≤◌}
 use lib.ListN.{length, take}
 use Rattle.answers.specs.declared.Told.{Told}
-use Rattle.answers.specs.declared.Written.{Written}
-use Rattle.answers.specs.Answers.{is_taken, refusal}
+use Rattle.answers.specs.declared.WriteError.{WriteError}
+use Rattle.answers.specs.Answers.{is_taken, refusal, is_set, Answer, Filling, Setting, Written}
 use Rattle.collector.specs.declared.Case.{Case}
-use Rattle.collector.specs.declared.Collected.{Collected}
+use Rattle.collector.specs.Taking.{Collected, collected_of}
 use Rattle.collector.specs.Cases.{empty_case}
-use Rattle.collector.specs.Sound.{Sound}
-use Rattle.collector.specs.Taking.{collected_of}
-use Rattle.rules_laws.specs.Theorems.{sound}
 use Rattle.output.specs.Line.{line_of}
 use Rattle.writer.specs.Written.{written_of, buffer_after}
 use Rattle.product.specs.Product.{most_printed}
 use Rattle.casefile.specs.Bounded.{enough, collected_bounded}
-use Rattle.tool.specs.Outputs.{output_after, output_of}
+use Rattle.tool.specs.Outputs.{output_after, output_of, case_by, read_case, is_marked}
 
 -- out was printed into the buffer p₀, which is now p, and so it is told; it isn't longer than what is ever printed
 abbrev pub Printed : List ℕ → List ℕ → Written → List ℕ → Type 0
@@ -38,26 +36,33 @@ printed_for word bs p₀ e h =
     let q = printed_as p₀ e h in
     (q.0, (q.1.0, (sym (ap (output_after word) (collected_bounded bs)), q.1.1)))
 
--- r was collected from a file
-module _ (bs : List ℕ) {e : Case} {r : Collected} (empty : e ≡ empty_case) (collected : r ≡ collected_of e bs) where
-  from_empty : r ≡ collected_of empty_case bs
-  from_empty = collected ∙ ap (λ c. collected_of c bs) empty
+-- what a word prints by what reading the file gives
+abbrev output_by : (Case → List ℕ) → Result Case Told → List ℕ
+output_by word r = elim r [ Ok c ↦ word c | Err t ↦ line_of t ]
 
-  -- its case is sound
-  pub collected_sound : Sound r.case
-  collected_sound = rw from_empty (sound _)
+read_by : (word : Case → List ℕ) (a : Answer) (c : Case) (n : ℕ) → cond (is_taken a) (word c) (line_of (refusal n a)) ≡ output_by word (case_by a c n)
+read_by word (Ok tt) c n = refl
+read_by word (Err a) c n = refl
 
-  -- what it says of its last record, t, says what a word prints
-  module _ (word : Case → List ℕ) (p₀ : List ℕ) {t : Bool} (said : t ≡ is_taken r.answer) where
-    output_by : {u : Bool} → t ≡ u → output_of word bs ≡ cond u (word r.case) (line_of (refusal r.taken r.answer))
-    output_by h =
-        sym (ap (output_after word) from_empty) ∙ ap (λ b. cond b (word r.case) (line_of (refusal r.taken r.answer))) (sym said ∙ h)
+module _ (word : Case → List ℕ) (bs p₀ : List ℕ) {r : Result Case Told} (read : r ≡ read_case bs) where
+  output_read : output_of word bs ≡ output_by word r
+  output_read = let r = collected_of empty_case bs in read_by word r.answer r.case r.taken ∙ sym (ap (output_by word) read)
 
-    -- where it is taken, what the word makes of the case was printed
-    pub taken_printed : {w : Written} {p : List ℕ} → t ≡ true → Printed (word r.case) p₀ w p → PrintedFor word bs p₀ w p
-    taken_printed h = printed_for word bs p₀ (output_by h)
+  -- where all records are taken, what the word makes of the case was printed
+  pub taken_printed : {c : Case} {w : Result ℕ WriteError} {p : List ℕ} → r ≡ Ok c → Printed (word c) p₀ w p → PrintedFor word bs p₀ w p
+  taken_printed h = printed_for word bs p₀ (output_read ∙ ap (output_by word) h)
 
-    -- where it is refused, its line was
-    pub refused_printed : {w : Written} {p : List ℕ} {n : Told} → t ≡ false → n ≡ refusal r.taken r.answer → Printed (line_of n) p₀ w p →
-        PrintedFor word bs p₀ w p
-    refused_printed h q = printed_for word bs p₀ (output_by h ∙ sym (ap line_of q))
+  -- where one is refused, its line was
+  pub refused_printed : {t : Told} {w : Result ℕ WriteError} {p : List ℕ} → r ≡ Err t → Printed (line_of t) p₀ w p → PrintedFor word bs p₀ w p
+  refused_printed h = printed_for word bs p₀ (output_read ∙ ap (output_by word) h)
+
+-- ---- what was made
+
+-- a case was made where the answer says so
+pub marked_ok : (a : Filling) → is_ok a ≡ is_marked a
+marked_ok (Ok tt) = refl
+marked_ok (Err a) = refl
+
+pub set_ok : (a : Setting) → is_ok a ≡ is_set a
+set_ok (Ok tt) = refl
+set_ok (Err a) = refl

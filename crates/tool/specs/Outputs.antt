@@ -1,26 +1,30 @@
 -- What each word of the tool prints for a case file: a line of three numbers, and after it the file of the case where it made one.
-use Rattle.std.specs.Prelude.{List, Bool, true, false, cond, ℕ}
-use Rattle.answers.specs.declared.Filling.{Filling}
-use Rattle.answers.specs.declared.Filling.TheVariants.{Marked, Refused, Changes}
+use Rattle.std.specs.Prelude.{List, Bool, true, false, cond, ℕ, Result, Ok, Err}
+use Rattle.answers.specs.declared.NotFilled.TheVariants.{Refused, Changes}
 use Rattle.answers.specs.declared.Told.{Told}
-use Rattle.answers.specs.Answers.{is_taken, refusal, filling_numbers, span_numbers, is_set, setting_numbers}
+use Rattle.answers.specs.Answers.{is_taken, refusal, filling_numbers, span_numbers, is_set, setting_numbers, Answer, Filling}
 use Rattle.collector.specs.declared.Case.{Case}
-use Rattle.collector.specs.declared.Collected.{Collected}
+use Rattle.collector.specs.Taking.{Collected, collected_of}
 use Rattle.collector.specs.Cases.{empty_case, items_of}
-use Rattle.collector.specs.Taking.{collected_of}
 use Rattle.verdict.specs.Span.{span_of}
 use Rattle.output.specs.Line.{line_of}
 use Rattle.product.specs.Product.{product_of}
-use Rattle.fill.specs.declared.Filled.{Filled}
-use Rattle.fill.specs.Filled.{filled_case}
-use Rattle.loops.specs.declared.Planned.{Planned}
-use Rattle.loops.specs.Planned.{set_case}
+use Rattle.fill.specs.Filled.{Filled, filled_case}
+use Rattle.loops.specs.Planned.{Planned, set_case}
 
 -- ---- every word
 
 -- after the records are taken, up to the first that is refused: its line; where none is, what the word prints for the case
 abbrev pub output_after : (Case → List ℕ) → Collected → List ℕ
 output_after word r = cond (is_taken r.answer) (word r.case) (line_of (refusal r.taken r.answer))
+
+-- the case of a file all of whose records are taken, or what is told of the first that is refused
+abbrev pub case_by : Answer → Case → ℕ → Result Case Told
+case_by (Ok tt) c n = Ok c
+case_by (Err a) c n = Err (refusal n (Err a))
+
+abbrev pub read_case : List ℕ → Result Case Told
+read_case bs = let r = collected_of empty_case bs in case_by r.answer r.case r.taken
 
 -- what a word prints for a case file
 abbrev pub output_of : (Case → List ℕ) → List ℕ → List ℕ
@@ -34,9 +38,8 @@ made_output made c told = cond made (product_of (items_of c)) (line_of told)
 
 -- whether filling in the marks made a case
 abbrev pub is_marked : Filling → Bool
-is_marked Marked = true
-is_marked (Refused a) = false
-is_marked (Changes p i) = false
+is_marked (Ok tt) = true
+is_marked (Err a) = false
 
 -- what is printed for what filling in the marks hands back
 abbrev pub filled_output : Filled → List ℕ

@@ -3,16 +3,13 @@
 --
 -- To be read with this file: meaning/specs/Files.antt (the files that are accepted), Marking.antt (a case with other marks, right marks) and Spans.antt (loops by number, the rounds that a loop may have, the record of a place), output/specs/Line.antt (a line), and of
 -- loops_laws/specs/File.antt `Respelled`: two files alike in every byte but those of one rounds field; of OtherMarks.antt `OtherMarks`: but those of marks.
-use Rattle.std.specs.Prelude.{◌≡◌, ◌↔◌, List, ◌++◌, false, cond, ℕ, ◌≤◌, length}
+use Rattle.std.specs.Prelude.{◌≡◌, ◌↔◌, List, ◌++◌, false, cond, ℕ, ◌≤◌, length, Ok}
 use Rattle.std.proofs.Common.{sym, ◌∙◌}
 use Rattle.std.proofs.Math.Path.{ap, subst}
 use Rattle.record.specs.Layout.{cut}
 use Rattle.items.specs.Lists.{Items}
 use Rattle.items.specs.File.{file_of}
-use Rattle.answers.specs.declared.Filling.{Filling}
-use Rattle.answers.specs.declared.Filling.TheVariants.{Marked}
-use Rattle.answers.specs.declared.Setting.TheVariants.{Set}
-use Rattle.answers.specs.Answers.{refusal, numbers, filling_numbers, span_numbers, is_set, setting_numbers}
+use Rattle.answers.specs.Answers.{refusal, numbers, filling_numbers, span_numbers, is_set, setting_numbers, Filling}
 use Rattle.rules.specs.Files.{spelled, AllTaken}
 use Rattle.collector.specs.declared.Case.{Case}
 use Rattle.collector.specs.Cases.{empty_case, items_of}
@@ -25,8 +22,7 @@ use Rattle.meaning.specs.Marking.{with_marks, RightMarks}
 use Rattle.meaning.specs.Rounds.{with_rounds}
 use Rattle.meaning.specs.Spans.{IsCounted, MayHave, AcceptedWith, place_record}
 use Rattle.fill_laws.specs.Unlooked.{same_start}
-use Rattle.fill.specs.declared.Filled.{Filled}
-use Rattle.fill.specs.Filled.{filled_case}
+use Rattle.fill.specs.Filled.{Filled, filled_case}
 use Rattle.fill.specs.Says.{FillSays}
 use Rattle.fill.specs.Theorems.{fill_answers, filled_sound, filled_right, filled_accepted}
 use Rattle.loops_laws.specs.File.{Respelled, respelled, respelled_other}
@@ -70,7 +66,7 @@ module _ (bs : List ℕ) (t : AllTaken (cut bs)) where
 
   -- where they can, it prints behind its line a file cs that is alike but for the marks of places: all its records are taken, it spells the case of the file with
   -- other marks, and these are right. And cs is accepted exactly where the last sentence is true at the start
-  pub fill_printed : FillSays (spelled bs) Marked →
+  pub fill_printed : FillSays (spelled bs) (Ok tt) →
       (cs : List ℕ) × (μ : ℕ → ℕ)
       × (fill_output bs ≡ line_of (numbers 0 (length cs) 0) ++ cs)
       × OtherMarks bs cs
@@ -82,14 +78,14 @@ module _ (bs : List ℕ) (t : AllTaken (cut bs)) where
   fill_printed f =
       let x = items_of held in
       let i : x ≡ spelled bs = case_is bs t in
-      let e = answered Marked f in
+      let e = answered (Ok tt) f in
       let (μ, h, r) = filled_right held (sound bs) e in
       let (u, v) = file_spells full.case (filled_sound held (sound bs)) in
       let a = filled_accepted held (sound bs) e in
       let Accepted : Items → Type 0 = λ y. IsAccepted y (start_of y) in (
         file_of (items_of full.case),
         μ,
-        output Marked f,
+        output (Ok tt) f,
         subst (λ ds. OtherMarks ds (file_of (items_of full.case))) (ap file_of i ∙ file_back bs t) (marks_other (sound bs) (filled_sound held (sound bs)) μ h),
         u,
         v ∙ h ∙ ap (λ (y : Items). with_marks y μ) i,
@@ -139,7 +135,7 @@ module _ (bs : List ℕ) (t : AllTaken (cut bs)) {k p m : ℕ} (h : IsCounted (s
   set_printed f n may =
       let i = case_is bs t in
       let g = subst (λ (y : Items). IsCounted y.places k p m) (sym i) h in
-      let e = (set_answers c (sound bs) k n Set).1 (subst Finished (sym i) f, may, (p, m, g)) in
+      let e = (set_answers c (sound bs) k n (Ok tt)).1 (subst Finished (sym i) f, may, (p, m, g)) in
       let y : items_of (set_case c k n).case ≡ with_rounds (spelled bs) p n = set_items c (sound bs) k n g e ∙ ap (λ x. with_rounds x p n) i in (
         file_of (with_rounds (spelled bs) p n),
         respelled bs t h may,

@@ -1,6 +1,6 @@
 -- What fills the table of an until's steps, place by place: past the places that are held nothing is marked, so nothing is left to do there.
 -- Assumes nothing.
-use Rattle.std.specs.Prelude.{◌≡◌, ℕ, ◌≤◌, ℤ, pos, length}
+use Rattle.std.specs.Prelude.{◌≡◌, ℕ, ◌≤◌, ℤ, pos, length, Option}
 use Rattle.std.proofs.Common.{◌∙◌, ap}
 use Rattle.laws.specs.Tab.{entry}
 use Rattle.kinds.specs.declared.Kind.TheVariants as kind
@@ -22,13 +22,13 @@ module _ (x : Items) where
   stop_at b p = choice_by (marked x b p) (pos 0)
 
   -- to go on from place p, where sentence a is held
-  abbrev pub go_at : ℕ → Term → Term → ℕ → ℤ
+  abbrev pub go_at : ℕ → Option Term → Option Term → ℕ → ℤ
   go_at a t u p = choice_by (marked x a p) (gain_of (λ s. marked x s p) t u)
 
   pub stop_past : (b p : ℕ) → length x.places ≤ p → stop_at b p ≡ none
   stop_past b p h = ap (λ c. choice_by c (pos 0)) (unmarked x b p h)
 
-  pub go_past : (a : ℕ) (t u : Term) (p : ℕ) → length x.places ≤ p → go_at a t u p ≡ none
+  pub go_past : (a : ℕ) (t u : Option Term) (p : ℕ) → length x.places ≤ p → go_at a t u p ≡ none
   go_past a t u p h = ap (λ c. choice_by c (gain_of (λ s. marked x s p) t u)) (unmarked x a p h)
 
 -- ---- the table has the steps

@@ -1,10 +1,9 @@
 -- An until by the labels of the places, what each place does to its best sum, and terms in their range.
-use Rattle.std.specs.Prelude.{ℕ, ◌-◌, ℤ, length}
+use Rattle.std.specs.Prelude.{ℕ, ◌-◌, ℤ, length, None, Option, Some}
 use Rattle.laws.specs.Sizes.{Within}
 use Rattle.laws.specs.Tab.{tab}
 use Rattle.kinds.specs.declared.Kind.TheVariants as kind
 use Rattle.items.specs.declared.Term.{Term}
-use Rattle.items.specs.declared.Term.TheVariants as term
 use Rattle.items.specs.Lists.{Items, room_of}
 use Rattle.verdict.specs.declared.Throughout.{Throughout}
 use Rattle.verdict.specs.Labels.{Label}
@@ -22,6 +21,6 @@ abbrev pub steps_of : (ℕ → Label) → Steps
 steps_of l = record { stops = tab (room_of kind.Place) 0 (λ p. stop_of (l p)); goes = tab (room_of kind.Place) 0 (λ p. go_of (l p)) }
 
 -- a term with a coefficient from -999 to 999
-abbrev pub Mild : Term → Type 0
-Mild term.None = Unit {0}
-Mild (term.Some c s) = Within 999 c
+abbrev pub Mild : Option Term → Type 0
+Mild None = Unit {0}
+Mild (Some c) = Within 999 c.coefficient

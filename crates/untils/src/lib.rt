@@ -18,78 +18,67 @@ use rounds::Row;
 use tables::Firsts;
 
 // What a term adds at a place with these marks.
-fn worth(marks: u32, t: Term) -> i16
+fn worth(marks: u32, t: Option<Term>) -> i16
     ensures { result ≡ worth (bit marks) t }
 {
     match t {
-        Term::None => 0,
-        Term::Some {
-            coefficient,
-            sentence,
-        } => {
-            if rounds::bit(marks, sentence) {
-                return coefficient;
-            }
-            0
-        }
+        Some(term) if rounds::bit(marks, term.sentence) => term.coefficient,
+        _ => 0,
     }
 }
 
 // What each place does to the best sum of an until of these sentences and terms.
-fn steps_of(c: Case, a: u8, b: u8, t: Term, u: Term) -> Steps
+fn steps_of(c: Case, a: u8, b: u8, t: Option<Term>, u: Option<Term>) -> Steps
     requires { Sound c }
     ensures { result ≡ steps_of (label_of (marked (items_of c)) a b t u) }
 {
     let places = c.places;
     let mut stops = [maxplus::NONE; Case::PLACES];
     let mut goes = [maxplus::NONE; Case::PLACES];
-    let mut p: usize = 0;
-    while p < c.count.places {
-        let place = places[p];
-        let marks = place.marks;
-        let gain = (worth(marks, t) as i64) + (worth(marks, u) as i64);
+    for p in 0..c.count.places {
+        let marks = places[p].marks;
+        let gain = i64::from(worth(marks, t)) + i64::from(worth(marks, u));
         stops[p] = maxplus::choice(rounds::bit(marks, b), 0);
         goes[p] = maxplus::choice(rounds::bit(marks, a), gain);
-        p = p + 1;
     }
-    Steps {
-        stops: stops,
-        goes: goes,
-    }
+    Steps { stops, goes }
 }
 
-// The row of sentence i, such an until: from the last place to the first, by the best sums in its first round and in its last.
-pub fn until_row(c: Case, firsts: Firsts, i: u8, a: u8, b: u8, bound: i32, t: Term, u: Term) -> Row
+// The row of sentence i, such an until (a loop of its own, as each form has): from the last place to the first, by the best sums in its first round and in its last.
+pub fn until_row(
+    c: Case,
+    firsts: Firsts,
+    i: u8,
+    a: u8,
+    b: u8,
+    bound: i32,
+    t: Option<Term>,
+    u: Option<Term>,
+) -> Row
     requires { (Sound c) × ((firsts ≡ firsts_of (items_of c).places) × ((Mild t) × (Mild u))) }
     ensures { result ≡ row_of (items_of c) i (untils_of (items_of c) (label_of (marked (items_of c)) a b t u) bound) }
 {
+    // an array of its own: where a loop reads c itself, all of it is copied
     let places = c.places;
-    let n = c.count.places;
     let steps = steps_of(c, a, b, t, u);
-    let z = bound as i64;
+    let z = i64::from(bound);
     let mut row = [0u8; Case::PLACES];
     let mut off = false;
     let mut first = maxplus::NONE;
     let mut last = maxplus::NONE;
-    let mut p = n;
-    while 0 < p {
-        p = p - 1;
-        let q = firsts.at[p] as usize;
-        let begin = places[q];
-        let mark = begin.mark;
+    for p in (0..c.count.places).rev() {
+        let q = usize::from(firsts.at[p]);
+        let mark = places[q].mark;
         if q + rounds::stretch(mark) <= p + 1 {
-            let ends = maxplus::around(&steps.stops, &steps.goes, q, mark, first);
+            let ends = steps.around(q, mark, first);
             first = ends.first;
             last = ends.last;
         }
-        let stop = steps.stops[p];
-        let go = steps.goes[p];
-        first = maxplus::step(stop, go, first);
-        last = maxplus::step(stop, go, last);
-        let here = places[p];
+        first = maxplus::step(steps.stops[p], steps.goes[p], first);
+        last = maxplus::step(steps.stops[p], steps.goes[p], last);
         let code = rounds::code(rounds::agree(z <= first, z <= last));
         row[p] = code;
-        off = rounds::off_by(off, code, rounds::bit(here.marks, i));
+        off = rounds::off_by(off, code, rounds::bit(places[p].marks, i));
     }
-    Row { at: row, off: off }
+    Row { at: row, off }
 }

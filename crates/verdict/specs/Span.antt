@@ -1,22 +1,20 @@
 -- The rounds that a case is accepted with, and a loop's rounds set, as computations (document 02, item 7).
-use Rattle.std.specs.Prelude.{List, Bool, true, false, ◌&&◌, ℕ, eqb, leb, length, get_or}
+use Rattle.std.specs.Prelude.{List, Bool, true, false, ◌&&◌, ℕ, eqb, leb, length, get_or, Err, Ok}
 use Rattle.laws.specs.Halving.{last_from}
 use Rattle.items.specs.declared.LoopMark.{LoopMark}
 use Rattle.items.specs.declared.LoopMark.TheVariants as mark
 use Rattle.items.specs.declared.Place.{Place}
 use Rattle.items.specs.Lists.{Items}
-use Rattle.answers.specs.declared.Judgement.{Judgement}
-use Rattle.answers.specs.declared.Judgement.TheVariants.{Accepted, Unfinished, WrongStart, Unconnected, GuardFails, WrongMark, RootUnmarked}
-use Rattle.answers.specs.declared.Setting.{Setting}
-use Rattle.answers.specs.declared.Setting.TheVariants as setting
-use Rattle.answers.specs.declared.Span.{Span}
-use Rattle.answers.specs.declared.Span.TheVariants as span
+use Rattle.answers.specs.declared.Rejection.TheVariants.{Unfinished, WrongStart, Unconnected, GuardFails, WrongMark, RootUnmarked}
+use Rattle.answers.specs.declared.NotSet.TheVariants as not_set
+use Rattle.answers.specs.declared.NoSpan.TheVariants as no_span
 use Rattle.rules.specs.Rules.{mark_at}
 use Rattle.rules.specs.Files.{item_count}
 use Rattle.meaning.specs.Judged.{start_of}
 use Rattle.meaning.specs.Rounds.{with_rounds}
 use Rattle.meaning.specs.Spans.{loop_starts, place_record}
 use Rattle.verdict.specs.Verdict.{finished, verdict}
+use Rattle.answers.specs.Answers.{Judgement, Setting, Span}
 
 -- ---- loops by number
 
@@ -34,13 +32,8 @@ counted_rounds (mark.Endless l b) = 0
 
 -- whether a judgement is 0
 abbrev pub is_accepted : Judgement → Bool
-is_accepted Accepted = true
-is_accepted (Unfinished n) = false
-is_accepted WrongStart = false
-is_accepted (Unconnected p t) = false
-is_accepted (GuardFails p g) = false
-is_accepted (WrongMark p i) = false
-is_accepted (RootUnmarked r) = false
+is_accepted (Ok tt) = true
+is_accepted (Err a) = false
 
 -- whether a case is accepted with n rounds in the loop that place p begins
 abbrev pub accepts_with : Items → ℕ → ℕ → Bool
@@ -58,18 +51,17 @@ last_rounds x p n limit = last_from (accepts_with x p) halvings n limit
 abbrev pub is_none : Items → ℕ → Bool
 is_none x p = eqb (counted_rounds (mark_at x.places p)) 0
 
--- where loop k begins with place p: by the judgement, whether that is 0, and whether the loop is absent or endless
-abbrev pub span_by : Items → ℕ → ℕ → Judgement → Bool → Bool → Span
-span_by x k p a false none = span.Refused a
-span_by x k p a true true = span.NoLoop k
-span_by x k p a true false = let n = counted_rounds (mark_at x.places p) in span.Between (last_rounds x p n 1) (last_rounds x p n 1000000)
+-- where loop k begins with place p: by the judgement, and whether the loop is absent or endless
+abbrev pub span_by : Items → ℕ → ℕ → Judgement → Bool → Span
+span_by x k p (Err a) none = Err (no_span.Refused a)
+span_by x k p (Ok tt) true = Err (no_span.NoLoop k)
+span_by x k p (Ok tt) false = let n = counted_rounds (mark_at x.places p) in Ok (last_rounds x p n 1, last_rounds x p n 1000000)
 
 -- the least and the greatest rounds of loop k that are accepted: the judgement's own result if the case isn't, then 27
 unfoldable pub span_of : Items → ℕ → Span
 span_of x k =
-    let a = verdict x (start_of x) in
     let p = loop_at x.places k in
-    span_by x k p a (is_accepted a) (is_none x p)
+    span_by x k p (verdict x (start_of x)) (is_none x p)
 
 -- ---- a loop's rounds set
 
@@ -79,10 +71,10 @@ may_have n = leb 1 n && leb n 1000000
 
 -- where loop k begins with place p: by whether the case is finished, whether the loop is absent or endless, and whether it may have so many rounds
 abbrev pub setting_by : Items → ℕ → ℕ → Bool → Bool → Bool → Setting
-setting_by x k p false none may = setting.Unfinished (item_count x)
-setting_by x k p true true may = setting.NoLoop k
-setting_by x k p true false false = setting.OutOfRange (place_record x p)
-setting_by x k p true false true = setting.Set
+setting_by x k p false none may = Err (not_set.Unfinished (item_count x))
+setting_by x k p true true may = Err (not_set.NoLoop k)
+setting_by x k p true false false = Err (not_set.OutOfRange (place_record x p))
+setting_by x k p true false true = Ok tt
 
 -- what setting n rounds in loop k tells: 24 as in judging, then 27, then 16
 unfoldable pub setting_of : Items → ℕ → ℕ → Setting

@@ -1,15 +1,12 @@
 -- The answer of a judgement, as a computation. It costs the same for any number of rounds.
-use Rattle.std.specs.Prelude.{List, [], ◌∷◌, Bool, true, false, cond, not, ◌&&◌, ℕ, suc, ◌-◌, eqb, ltb, ℤ, pos, ◌+ℤ◌, length, get_or}
+use Rattle.std.specs.Prelude.{List, [], ◌∷◌, Bool, true, false, cond, not, ◌&&◌, ℕ, suc, ◌-◌, eqb, ltb, ℤ, pos, ◌+ℤ◌, length, get_or, Err, None, Ok, Some}
 use Rattle.kinds.specs.declared.Kind.TheVariants as kind
 use Rattle.counters.specs.Sum.{Valuation, sum}
-use Rattle.items.specs.declared.Ref.{Ref}
-use Rattle.items.specs.declared.Ref.TheVariants as ref
 use Rattle.items.specs.declared.Guard.{Guard}
 use Rattle.items.specs.declared.Form.{Form}
 use Rattle.items.specs.declared.Form.TheVariants as form
 use Rattle.items.specs.Lists.{Items, no_item}
-use Rattle.answers.specs.declared.Judgement.{Judgement}
-use Rattle.answers.specs.declared.Judgement.TheVariants.{Accepted, Unfinished, WrongStart, Unconnected, GuardFails, WrongMark, RootUnmarked}
+use Rattle.answers.specs.declared.Rejection.TheVariants.{Unfinished, WrongStart, Unconnected, GuardFails, WrongMark, RootUnmarked}
 use Rattle.rules.specs.Files.{item_count}
 use Rattle.standing.specs.Standing.{no_loops, loops_from, is_closed}
 use Rattle.meaning.specs.Drift.{drift}
@@ -24,6 +21,8 @@ use Rattle.verdict.specs.Labels.{label_of}
 use Rattle.verdict.specs.Rounds.{first_of, loop_of, is_last, rounds_of, rounds_by, flag, agree, through}
 use Rattle.verdict.specs.Forward.{base}
 use Rattle.verdict.specs.Best.{Front, is_reached, front}
+use Rattle.items.specs.Items.{Ref}
+use Rattle.answers.specs.Answers.{Judgement}
 
 -- ---- guards over the rounds of a place
 
@@ -119,18 +118,18 @@ finished x = ltb 0 (length x.sentences) && is_closed (loops_from no_loops 0 x.pl
 
 -- the number of a reference
 abbrev pub ref_number : Ref → ℕ
-ref_number ref.None = 0
-ref_number (ref.At n) = n
+ref_number None = 0
+ref_number (Some n) = n
 
 -- by the tests in their order
 abbrev pub judgement_by : Items → Bool → Bool → Found Way → Found Test → Found Mark → Bool → Judgement
-judgement_by x false s w t k r = Unfinished (item_count x)
-judgement_by x true false w t k r = WrongStart
-judgement_by x true true (at w) t k r = Unconnected (record { 0 = w.place }) (ref_number (move_no x.places w))
-judgement_by x true true nowhere (at t) k r = GuardFails (record { 0 = t.way.place }) t.guard
-judgement_by x true true nowhere nowhere (at k) r = WrongMark (record { 0 = k.place }) k.sentence
-judgement_by x true true nowhere nowhere nowhere false = RootUnmarked (root x)
-judgement_by x true true nowhere nowhere nowhere true = Accepted
+judgement_by x false s w t k r = Err (Unfinished (item_count x))
+judgement_by x true false w t k r = Err WrongStart
+judgement_by x true true (at w) t k r = Err (Unconnected (record { 0 = w.place }) (ref_number (move_no x.places w)))
+judgement_by x true true nowhere (at t) k r = Err (GuardFails (record { 0 = t.way.place }) t.guard)
+judgement_by x true true nowhere nowhere (at k) r = Err (WrongMark (record { 0 = k.place }) k.sentence)
+judgement_by x true true nowhere nowhere nowhere false = Err (RootUnmarked (root x))
+judgement_by x true true nowhere nowhere nowhere true = Ok tt
 
 -- the first of 24, 31, 32 and 33 that applies; Accepted where none does
 unfoldable pub before_marks : Items → Valuation → Judgement

@@ -1,5 +1,5 @@
 -- The answer of a judgement is the one that the meaning leaves: each test tells, and they stand in document 01's order. Assumes nothing.
-use Rattle.std.specs.Prelude.{◌≡◌, refl, ◌↔◌, ◌⊎◌, List, map, Bool, true, false, cond, eqb, ltb, length, get_or}
+use Rattle.std.specs.Prelude.{◌≡◌, refl, ◌↔◌, ◌⊎◌, List, map, Bool, true, false, cond, eqb, ltb, length, get_or, None, Some}
 use Rattle.std.proofs.Common.{ap, inl, inr, ⊎_elim, arith, eqb-true, eq-eqb}
 use mathlib.Core.List.Memᴰ
 use Rattle.std.proofs.lemmas.Bool.{false≢true}
@@ -12,8 +12,6 @@ use Rattle.kinds.specs.declared.Kind.TheVariants as kind
 use Rattle.counters.specs.Sum.{Valuation}
 use Rattle.items.specs.declared.LoopMark.{LoopMark}
 use Rattle.items.specs.declared.LoopMark.TheVariants as mark
-use Rattle.items.specs.declared.Ref.{Ref}
-use Rattle.items.specs.declared.Ref.TheVariants as ref
 use Rattle.items.specs.Lists.{Items, no_item}
 use Rattle.rules.specs.Rules.{Closed}
 use Rattle.standing.specs.Standing.{no_loops, loops_from, is_closed}
@@ -35,6 +33,7 @@ use Rattle.verdict_laws.specs.Tells.{TellsHow}
 use Rattle.verdict_laws.specs.Search.{Finds, Sorts, Sorted, end, told_all, told_both, finds, first_has}
 use Rattle.verdict_laws.specs.Kept.{test_always, test_fails}
 use Rattle.verdict_laws.specs.Forms.{form_tells}
+use Rattle.items.specs.Items.{Ref}
 
 -- ---- what a test tells
 
@@ -75,11 +74,11 @@ mark_sorts false t w =
 -- ---- each list of tests
 
 -- a way into place p names a move
-in_named : (p : ℕ) (r : Ref) {w : Way} → Has (way_in p r) w → (w ≡ record { place = p; back = false }) × (r ≡ ref.At (ref_number r))
-in_named p ref.None m = absurd (Memᴰ.not-nil m)
-in_named p (ref.At t) m = (Memᴰ.eq_of_singleton m, refl)
+in_named : (p : ℕ) (r : Ref) {w : Way} → Has (way_in p r) w → (w ≡ record { place = p; back = false }) × (r ≡ Some (ref_number r))
+in_named p None m = absurd (Memᴰ.not-nil m)
+in_named p (Some t) m = (Memᴰ.eq_of_singleton m, refl)
 
-back_named : (p : ℕ) (k : LoopMark) {w : Way} → Has (way_back p k) w → (w ≡ record { place = p; back = true }) × (back_of k ≡ ref.At (ref_number (back_of k)))
+back_named : (p : ℕ) (k : LoopMark) {w : Way} → Has (way_back p k) w → (w ≡ record { place = p; back = true }) × (back_of k ≡ Some (ref_number (back_of k)))
 back_named p mark.None m = absurd (Memᴰ.not-nil m)
 back_named p (mark.Counted l n b) m = (Memᴰ.eq_of_singleton m, refl)
 back_named p (mark.Endless l b) m = (Memᴰ.eq_of_singleton m, refl)
@@ -100,7 +99,7 @@ module _ (x : Items) where
       })))
 
   -- a way of the plan names a move
-  way_named : (w : Way) → Has (ways_of x) w → move_no x.places w ≡ ref.At (ref_number (move_no x.places w))
+  way_named : (w : Way) → Has (ways_of x) w → move_no x.places w ≡ Some (ref_number (move_no x.places w))
   way_named w m =
       let ps = x.places in
       let (p, b, k) = gather_has (ways_into ps) (from 0 (length ps)) m in

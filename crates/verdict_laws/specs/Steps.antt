@@ -1,5 +1,5 @@
 -- Where a run is, by place: in which stretch, in which rounds, by which ways; and that it comes to all of them. Assumes nothing.
-use Rattle.std.specs.Prelude.{◌≡◌, ◌↔◌, List, true, false, cond, ltb, eqb, length}
+use Rattle.std.specs.Prelude.{◌≡◌, ◌↔◌, List, true, false, cond, ltb, eqb, length, None, Some}
 use Rattle.std.proofs.Math.Path.{refl, sym, ap}
 use Rattle.std.proofs.Common.{◌∙◌, subst, ⊎_elim, eq-or-lt_of_le}
 use mathlib.Core.List.Memᴰ
@@ -13,8 +13,6 @@ use Rattle.laws.specs.All.{from}
 use Rattle.laws.specs.Members.{Has, has_below, gather_has}
 use Rattle.items.specs.declared.LoopMark.{LoopMark}
 use Rattle.items.specs.declared.LoopMark.TheVariants as mark
-use Rattle.items.specs.declared.Ref.{Ref}
-use Rattle.items.specs.declared.Ref.TheVariants as ref
 use Rattle.items.specs.declared.Place.{Place}
 use Rattle.items.specs.Lists.{Items}
 use Rattle.rules.specs.Rules.{mark_at, Closed}
@@ -26,6 +24,7 @@ use Rattle.meaning_laws.specs.Stays.{next_by_lem}
 use Rattle.verdict.specs.declared.Rounds.{Rounds}
 use Rattle.verdict.specs.declared.Rounds.TheVariants as rounds
 use Rattle.verdict.specs.Rounds.{first_of, loop_of, rounds_of, later, rounds_by, In}
+use Rattle.items.specs.Items.{Ref}
 
 -- ---- rounds
 
@@ -220,9 +219,9 @@ module _ (x : Items) (laid : Laid x.places) (closed : Closed x) (p : ℕ) (h : p
 -- ---- the ways of a plan
 
 -- there is one where a record names its move
-pub in_way : (p : ℕ) (t : Ref) {w : Way} → Has (way_in p t) w → (w ≡ move_to p) × (t ≡ ref.None → ⊥)
-in_way p ref.None h = absurd (Memᴰ.not-nil h)
-in_way p (ref.At t) h = (Memᴰ.eq_of_singleton h, λ e. let z : ◌≡◌ {A = ℕ} 0 1 = cc in omega arith)
+pub in_way : (p : ℕ) (t : Ref) {w : Way} → Has (way_in p t) w → (w ≡ move_to p) × (t ≡ None → ⊥)
+in_way p None h = absurd (Memᴰ.not-nil h)
+in_way p (Some t) h = (Memᴰ.eq_of_singleton h, λ e. let z : ◌≡◌ {A = ℕ} 0 1 = cc in omega arith)
 
 pub back_way : (p : ℕ) (k : LoopMark) {w : Way} → Has (way_back p k) w → (w ≡ back_to p) × (k ≡ mark.None → ⊥)
 back_way p mark.None h = absurd (Memᴰ.not-nil h)
@@ -242,7 +241,7 @@ module _ (x : Items) (f : Facts x) (closed : Closed x) where
       (λ i. let (e, n) = back_way p (place_at ps p).mark i in rw e (takes_back ps f.resolved.laid p l n))
       (Memᴰ.append_cases (way_in p (place_at ps p).way) k)
     where
-      into : (p : ℕ) → p < length x.places → ((place_at x.places p).way ≡ ref.None → ⊥) → (r : ℕ) → In (rounds_by x.places (move_to p)) r →
+      into : (p : ℕ) → p < length x.places → ((place_at x.places p).way ≡ None → ⊥) → (r : ℕ) → In (rounds_by x.places (move_to p)) r →
           Takes x.places (move_to p) r
       into zero l n = absurd (n f.start)
       into (suc p) l n = takes_in x.places f.resolved.laid p l

@@ -1,11 +1,9 @@
 -- What is proved of the answer: start here. The computation is in Verdict.antt, what each answer says in the crate meaning. Assumes nothing.
-use Rattle.std.specs.Prelude.{◌≡◌, ◌↔◌}
+use Rattle.std.specs.Prelude.{◌≡◌, ◌↔◌, Ok}
 use Rattle.std.proofs.Common.{ap}
 use Rattle.std.proofs.Math.Decide.{ℕ_discrete}
 use Rattle.counters.specs.Sum.{Valuation}
-use Rattle.answers.specs.declared.Judgement.{Judgement}
-use Rattle.answers.specs.declared.Judgement.TheVariants.{Accepted}
-use Rattle.answers.specs.Answers.{numbers_of}
+use Rattle.answers.specs.Answers.{numbers_of, Judgement}
 use Rattle.collector.specs.declared.Case.{Case}
 use Rattle.collector.specs.Cases.{items_of}
 use Rattle.collector.specs.Sound.{Sound}
@@ -28,11 +26,11 @@ accepts c s θ = zero_accepts (items_of c) θ (verdict (items_of c) θ) (judged 
 
 -- a case is accepted exactly where nothing else is said of it: none of 24 and 31 to 35 applies
 pub accepted_none : (c : Case) → Sound c → (θ : Valuation) →
-    IsAccepted (items_of c) θ ↔ ((a : Judgement) → (a ≡ Accepted → ⊥) → Judged (items_of c) θ a → ⊥)
+    IsAccepted (items_of c) θ ↔ ((a : Judgement) → (a ≡ Ok tt → ⊥) → Judged (items_of c) θ a → ⊥)
 accepted_none c s θ =
     let x = items_of c in
     let v = verdict x θ in (
-      λ h a n j. n (one_answer x θ a Accepted j h),
+      λ h a n j. n (one_answer x θ a (Ok tt) j h),
       λ f. elim (ℕ_discrete (numbers_of v).result 0) [
         | yes e ↦ (accepts c s θ).0 e
         | no n ↦ absurd (f v (λ e. n (ap (λ (a : Judgement). (numbers_of a).result) e)) (judged c s θ))

@@ -1,14 +1,12 @@
 -- The guards on the ways of a plan by number: test k is on way k / 2, the first guard of its move where k is even, and the second where k is odd.
 -- Assumes nothing.
-use Rattle.std.specs.Prelude.{◌≡◌, List, [], ◌++◌, map, Bool, true, false, cond, eqb, length, get_or}
+use Rattle.std.specs.Prelude.{◌≡◌, List, [], ◌++◌, map, Bool, true, false, cond, eqb, length, get_or, None, Some}
 use Rattle.std.proofs.Math.Path.{refl}
 use Rattle.std.proofs.Common.{◌∙◌, ap, arith}
 use Prim.Native.Nat.{ℕ, ◌*◌, ◌/◌, ◌%◌, ◌≤◌, ◌<◌}
 use Rattle.laws.specs.All.{All, none, also, from, gather}
 use Rattle.laws.specs.Gathered.{gather_gather}
 use Rattle.kinds.specs.declared.Kind.TheVariants as kind
-use Rattle.items.specs.declared.Ref.{Ref}
-use Rattle.items.specs.declared.Ref.TheVariants as ref
 use Rattle.items.specs.declared.Guard.{Guard}
 use Rattle.items.specs.declared.Move.{Move}
 use Rattle.items.specs.Lists.{Items, no_item, room_of}
@@ -31,6 +29,7 @@ use Rattle.tables.specs.Known.{first_is, rounds_are}
 use Rattle.ways.specs.Told.{is_named, given}
 use Rattle.ways.specs.Laws.{if_there, each, gather_two}
 use Rattle.ways.specs.Ways.{way_no, is_way, ways_listed, move_held, move_below}
+use Rattle.items.specs.Items.{Ref}
 
 -- one of the two guards of a move
 abbrev pub guard_by : Bool → Move → Ref
@@ -39,10 +38,10 @@ guard_by second m = cond second m.guard2 m.guard1
 -- ---- all tests
 
 both_listed : {A : Type 0} (f : ℕ → A) (a b : Ref) → map f (named a ++ named b) ++ [] ≡ if_there (is_named a) (f (ref_number a)) ++ if_there (is_named b) (f (ref_number b))
-both_listed f ref.None ref.None = refl
-both_listed f ref.None (ref.At m) = refl
-both_listed f (ref.At n) ref.None = refl
-both_listed f (ref.At n) (ref.At m) = refl
+both_listed f None None = refl
+both_listed f None (Some m) = refl
+both_listed f (Some n) None = refl
+both_listed f (Some n) (Some m) = refl
 
 module _ (x : Items) where
   -- a guard on a way
@@ -69,8 +68,8 @@ module _ (x : Items) where
           let m = move_at x.moves r in
           tests_on w ≡ map test (guards_of m) →
           gather tests_on (if_there (is_named r) w) ≡ if_there (is_named m.guard1) (test (ref_number m.guard1)) ++ if_there (is_named m.guard2) (test (ref_number m.guard2))
-      by ref.None e = refl
-      by (ref.At t) e = ap (λ k. k ++ []) e ∙ both_listed test (move_at x.moves (ref.At t)).guard1 (move_at x.moves (ref.At t)).guard2
+      by None e = refl
+      by (Some t) e = ap (λ k. k ++ []) e ∙ both_listed test (move_at x.moves (Some t)).guard1 (move_at x.moves (Some t)).guard2
 
   -- the guard of test k, whether it is there, and test k
   abbrev pub guard_no : ℕ → Ref
@@ -103,22 +102,22 @@ module _ (x : Items) where
 -- a guard of the move that a reference names
 by_number : (ts : List Move) (r : Ref) (second : Bool) → given r (guard_by second (get_or ts (ref_number r) (no_item kind.Move))) ≡ guard_by second (move_at ts r)
 unfolding move_at
-by_number ts ref.None true = refl
-by_number ts ref.None false = refl
-by_number ts (ref.At t) second = refl
+by_number ts None true = refl
+by_number ts None false = refl
+by_number ts (Some t) second = refl
 
 -- a guard of a move is one of the guards, of which there is room for m
 one_below : (a b : Ref) (second : Bool) {n m : ℕ} → All (λ g. g < n) (named a ++ named b) → 0 < m → n ≤ m → ref_number (cond second b a) < m
-one_below ref.None b false h z l = z
-one_below (ref.At u) b false (also g h) z l = omega arith
-one_below a ref.None true h z l = z
-one_below ref.None (ref.At u) true (also g h) z l = omega arith
-one_below (ref.At v) (ref.At u) true (also f (also g h)) z l = omega arith
+one_below None b false h z l = z
+one_below (Some u) b false (also g h) z l = omega arith
+one_below a None true h z l = z
+one_below None (Some u) true (also g h) z l = omega arith
+one_below (Some v) (Some u) true (also f (also g h)) z l = omega arith
 
-guards_held : {x : Items} → Facts x → (r : Ref) → ((t : ℕ) → r ≡ ref.At t → t < length x.moves) → All (λ g. g < length x.guards) (guards_of (move_at x.moves r))
+guards_held : {x : Items} → Facts x → (r : Ref) → ((t : ℕ) → r ≡ Some t → t < length x.moves) → All (λ g. g < length x.guards) (guards_of (move_at x.moves r))
 unfolding move_at
-guards_held f ref.None h = none
-guards_held f (ref.At t) h = f.resolved.guards t (h t refl)
+guards_held f None h = none
+guards_held f (Some t) h = f.resolved.guards t (h t refl)
 
 module _ {c : Case} (s : Sound c) (k : ℕ) (h : k < 4 * c.count.places) where
   -- its items

@@ -1,11 +1,9 @@
 -- The ways of a plan by number: way k leads into place k / 2, by the move into it where k is even, and by its back move where k is odd. Assumes nothing.
-use Rattle.std.specs.Prelude.{◌≡◌, refl, List, ◌++◌, Bool, true, false, cond, not, ◌&&◌, ℕ, zero, suc, ◌+◌, ◌-◌, ◌*◌, ◌/◌, ◌%◌, ◌≤◌, ◌<◌, eqb, length, get_or}
+use Rattle.std.specs.Prelude.{◌≡◌, refl, List, ◌++◌, Bool, true, false, cond, not, ◌&&◌, ℕ, zero, suc, ◌+◌, ◌-◌, ◌*◌, ◌/◌, ◌%◌, ◌≤◌, ◌<◌, eqb, length, get_or, None, Some}
 use Rattle.std.proofs.Common.{◌∙◌, ap, ap₂, arith}
 use Rattle.laws.specs.Tests.{cond_by}
 use Rattle.laws.specs.All.{from, gather}
 use Rattle.kinds.specs.declared.Kind.TheVariants as kind
-use Rattle.items.specs.declared.Ref.{Ref}
-use Rattle.items.specs.declared.Ref.TheVariants as ref
 use Rattle.items.specs.declared.LoopMark.{LoopMark}
 use Rattle.items.specs.declared.LoopMark.TheVariants as mark
 use Rattle.items.specs.declared.Move.{Move}
@@ -24,6 +22,7 @@ use Rattle.tables.specs.Reads.{at_places, at_moves}
 use Rattle.guards.specs.Found.{found, found_start}
 use Rattle.ways.specs.Told.{is_named}
 use Rattle.ways.specs.Laws.{if_there, each, fails, gather_two}
+use Rattle.items.specs.Items.{Ref}
 
 -- way k
 abbrev pub way_no : ℕ → Way
@@ -32,8 +31,8 @@ way_no k = record { place = k / 2; back = eqb (k % 2) 1 }
 -- ---- all ways
 
 in_listed : (p : ℕ) (r : Ref) → way_in p r ≡ if_there (is_named r) (record { place = p; back = false })
-in_listed p ref.None = refl
-in_listed p (ref.At t) = refl
+in_listed p None = refl
+in_listed p (Some t) = refl
 
 back_listed : (p : ℕ) (m : LoopMark) → way_back p m ≡ if_there (is_named (back_of m)) (record { place = p; back = true })
 back_listed p mark.None = refl
@@ -64,15 +63,15 @@ module _ (x : Items) where
 by_number : (ts : List Move) (r : Ref) (f : Move → Bool)
     → (is_named r && f (get_or ts (ref_number r) (no_item kind.Move))) ≡ (is_named r && f (move_at ts r))
 unfolding move_at
-by_number ts ref.None f = refl
-by_number ts (ref.At t) f = refl
+by_number ts None f = refl
+by_number ts (Some t) f = refl
 
-number_below : (r : Ref) (n : ℕ) → 0 < n → ((t : ℕ) → r ≡ ref.At t → t < n) → ref_number r < n
-number_below ref.None n h f = h
-number_below (ref.At t) n h f = f t refl
+number_below : (r : Ref) (n : ℕ) → 0 < n → ((t : ℕ) → r ≡ Some t → t < n) → ref_number r < n
+number_below None n h f = h
+number_below (Some t) n h f = f t refl
 
 -- a move into a place is one of the moves
-way_below : {x : Items} → Facts x → (p t : ℕ) → p < length x.places → (place_at x.places p).way ≡ ref.At t → t < length x.moves
+way_below : {x : Items} → Facts x → (p t : ℕ) → p < length x.places → (place_at x.places p).way ≡ Some t → t < length x.moves
 way_below f zero t h e =
     let a = f.start in
     let z : ◌≡◌ {A = ℕ} 0 1 = cc in
@@ -112,10 +111,10 @@ module _ {c : Case} (s : Sound c) (k : ℕ) where
         cond_by (λ q. q < room_of kind.Place) (way_no k).back (λ e. omega (arith, f.resolved.laid.long (k / 2))) (λ e. omega arith)
 
     -- its move is one of the moves
-    pub move_held : (t : ℕ) → move_no x.places (way_no k) ≡ ref.At t → t < length x.moves
+    pub move_held : (t : ℕ) → move_no x.places (way_no k) ≡ Some t → t < length x.moves
     move_held = by (way_no k).back
       where
-        by : (b : Bool) (t : ℕ) → move_no x.places (record { place = k / 2; back = b }) ≡ ref.At t → t < length x.moves
+        by : (b : Bool) (t : ℕ) → move_no x.places (record { place = k / 2; back = b }) ≡ Some t → t < length x.moves
         by true t e = (facts c s).resolved.backs (k / 2) t inside e
         by false t e = way_below (facts c s) (k / 2) t inside e
 

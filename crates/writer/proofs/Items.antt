@@ -1,5 +1,6 @@
 -- The items of a case as they are written: each from its array, record by record, kind by kind; all of them, which are the file. Assumes nothing.
-use mathlib.Core.Path.{◌≡◌, refl, sym, ◌∙◌, ap, ap₂}
+use Rattle.std.specs.Prelude.{Err, Ok}
+use mathlib.Core.Path.{◌≡◌, sym, ◌∙◌, ap, ap₂}
 use mathlib.Core.Bool.{Bool, true, false, cond}
 use mathlib.Core.List.{List, [], ◌∷◌, ◌++◌, append-nil, append_assoc}
 use Prim.Native.Nat.{ℕ, ◌+◌, ◌-◌, ◌*◌, ◌≤◌, ◌<◌}
@@ -22,7 +23,7 @@ use Rattle.items.specs.Items.{Item}
 use Rattle.items.specs.Lists.{Items, list_of, no_item, room_of}
 use Rattle.items.specs.File.{item_bytes, kind_bytes, file_of}
 use Rattle.record_writer.specs.Fields.{HasRecord}
-use Rattle.answers.specs.declared.Written.TheVariants.{All, TooShort}
+use Rattle.answers.specs.declared.WriteError.TheVariants.{TooShort}
 use Rattle.collector.specs.declared.Case.{Case}
 use Rattle.collector.specs.Cases.{arrays_of, items_of}
 use Rattle.collector.specs.Sound.{Sound}
@@ -84,13 +85,11 @@ module _ {c : Case} (s : Sound c) where
 -- the items of the kinds below rank r are written, and the first i of the kind of that rank, up to byte n
 pub record Upto (c : Case) (p₀ p : List ℕ) (n r i : ℕ) : Type 0 where
   pub begun : Begun p₀ (gather (kind_bytes (items_of c)) (take r all_kinds) ++ gather (item_bytes (kind_at r)) (take i (list_of (kind_at r) (items_of c)))) p n
-  pub rank : r ≤ length all_kinds
   pub held : i ≤ count_of c.count (kind_at r)
-  pub past : length all_kinds ≤ r → i ≡ 0
 
 pub upto_none : (c : Case) (p : List ℕ) → Upto c p p 0 0 0
 unfolding gather
-upto_none c p = record { begun = begun_none p; rank = omega arith; held = omega arith; past = λ h. refl }
+upto_none c p = record { begun = begun_none p; held = omega arith }
 
 module _ {c : Case} {p₀ p : List ℕ} {n r i : ℕ} (s : Sound c) (u : Upto c p₀ p n r i) where
   abbrev x : Items
@@ -131,9 +130,7 @@ module _ {c : Case} {p₀ p : List ℕ} {n r i : ℕ} (s : Sound c) (u : Upto c 
       ∙ ap (λ l. first ++ l) (sym (gather_more (item_bytes k) (list_of k x) i (no_item k) (omega (arith, counted c s k)))) in
       record {
         begun = rw (← more) (begun_part u.begun (item_bytes k (item_at c k i)) q record_length (item_long s k i g) m e);
-        rank = u.rank;
         held = omega arith;
-        past = λ b. absurd (omega arith);
       }
 
   -- all of the kind are: on to the next
@@ -145,26 +142,26 @@ module _ {c : Case} {p₀ p : List ℕ} {n r i : ℕ} (s : Sound c) (u : Upto c 
       ap (λ l. first ++ gather (item_bytes k) l) (take_all i (list_of k x) (omega (arith, counted c s k)))
       ∙ sym (gather_more (kind_bytes x) all_kinds r State h)
       ∙ sym (append-nil (gather (kind_bytes x) (take (r + 1) all_kinds))) in
-      record { begun = rw (← more) u.begun; rank = omega arith; held = omega arith; past = λ b. refl }
+      record { begun = rw (← more) u.begun; held = omega arith }
 
   -- all are
-  pub upto_all : length all_kinds ≤ r → Begun p₀ (file_of (items_of c)) p n
+  pub upto_all : length all_kinds ≤ r → i ≡ 0 → Begun p₀ (file_of (items_of c)) p n
   unfolding file_of gather
-  upto_all h =
+  upto_all h e =
       let all : gather (kind_bytes x) (take r all_kinds) ++ gather (item_bytes k) (take i (list_of k x)) ≡ gather (kind_bytes x) all_kinds =
-      ap₂ (λ l j. gather (kind_bytes x) l ++ gather (item_bytes k) (take j (list_of k x))) (take_all r all_kinds h) (u.past h) ∙ append-nil (gather (kind_bytes x) all_kinds) in
+      ap₂ (λ l j. gather (kind_bytes x) l ++ gather (item_bytes k) (take j (list_of k x))) (take_all r all_kinds h) e ∙ append-nil (gather (kind_bytes x) all_kinds) in
       rw (← all) u.begun
 
 -- ---- what is told
 
 module _ (file b : List ℕ) where
   by_room : (t : Bool) → leb (length file) (length b) ≡ t →
-      (cond t (All (length file)) TooShort ≡ written_of file (length b)) × (cond t (file ++ drop (length file) b) b ≡ buffer_after file b)
+      (cond t (Ok (length file)) (Err TooShort) ≡ written_of file (length b)) × (cond t (file ++ drop (length file) b) b ≡ buffer_after file b)
   unfolding written_of buffer_after
-  by_room t e = (ap (λ u. cond u (All (length file)) TooShort) (sym e), ap (λ u. cond u (file ++ drop (length file) b) b) (sym e))
+  by_room t e = (ap (λ u. cond u (Ok (length file)) (Err TooShort)) (sym e), ap (λ u. cond u (file ++ drop (length file) b) b) (sym e))
 
-  pub too_short : length b < length file → (TooShort ≡ written_of file (length b)) × (b ≡ buffer_after file b)
+  pub too_short : length b < length file → (Err TooShort ≡ written_of file (length b)) × (b ≡ buffer_after file b)
   too_short h = by_room false (lt-leb (length file) (length b) h)
 
-  pub all_fits : length file ≤ length b → (All (length file) ≡ written_of file (length b)) × (file ++ drop (length file) b ≡ buffer_after file b)
+  pub all_fits : length file ≤ length b → (Ok (length file) ≡ written_of file (length b)) × (file ++ drop (length file) b ≡ buffer_after file b)
   all_fits h = by_room true (le-leb (length file) (length b) h)

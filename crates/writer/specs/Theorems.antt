@@ -4,14 +4,13 @@
 --
 -- To be read with this file: items/specs/File.antt (the file of a case) and Written.antt. What is proved of that file for itself is in rules_laws/specs/Theorems.antt:
 -- `file_again`, `file_back`, `held_back`, `one_file`.
-use Rattle.std.specs.Prelude.{◌≡◌, List, ℕ, ◌≤◌, ◌<◌, length, take, drop}
+use Rattle.std.specs.Prelude.{◌≡◌, List, ℕ, ◌≤◌, ◌<◌, length, take, drop, Err, Ok}
 use Rattle.std.proofs.Math.Path.{refl, ap}
 use Rattle.std.proofs.Common.{◌∙◌, le-leb}
 use Rattle.std.proofs.Math.Seq.{take-append_seam, drop-append_seam}
 use Rattle.std.proofs.lemmas.Bool.{lt-leb}
 use Rattle.items.specs.File.{file_of}
-use Rattle.answers.specs.declared.Answer.TheVariants.{Taken}
-use Rattle.answers.specs.declared.Written.TheVariants.{All, TooShort}
+use Rattle.answers.specs.declared.WriteError.TheVariants.{TooShort}
 use Rattle.rules.specs.Files.{item_count}
 use Rattle.collector.specs.declared.Case.{Case}
 use Rattle.collector.specs.Cases.{items_of}
@@ -30,9 +29,9 @@ module _ (c : Case) (s : Sound c) (buffer : List ℕ) where
   pub written_again : length (file_of (items_of c)) ≤ length buffer →
       let n = length (file_of (items_of c)) in
       let after = buffer_after (file_of (items_of c)) buffer in
-      (written_of (file_of (items_of c)) (length buffer) ≡ All n)
+      (written_of (file_of (items_of c)) (length buffer) ≡ Ok n)
       × (drop n after ≡ drop n buffer)
-      × (collected (take n after) ≡ record { case = c; answer = Taken; taken = item_count (items_of c) })
+      × (collected (take n after) ≡ record { case = c; answer = Ok tt; taken = item_count (items_of c) })
   unfolding written_of buffer_after
   written_again h =
       rw (le-leb (length file) (length buffer) h) (
@@ -43,6 +42,6 @@ module _ (c : Case) (s : Sound c) (buffer : List ℕ) where
 
   -- where it is shorter: 41, and it stays as it was
   pub too_short : length buffer < length (file_of (items_of c)) →
-      (written_of (file_of (items_of c)) (length buffer) ≡ TooShort) × (buffer_after (file_of (items_of c)) buffer ≡ buffer)
+      (written_of (file_of (items_of c)) (length buffer) ≡ Err TooShort) × (buffer_after (file_of (items_of c)) buffer ≡ buffer)
   unfolding written_of buffer_after
   too_short h = rw (lt-leb (length file) (length buffer) h) (refl, refl)

@@ -7,30 +7,26 @@ ghost use Rattle.collector.specs.Cases.{items_of};
 ghost use Rattle.collector.specs.Sound.{Sound};
 ghost use Rattle.writer.specs.Written.{written_of, buffer_after};
 
-use answers::Written;
+use answers::WriteError;
 use collector::Case;
 use kinds::Kind;
 use record::Record;
 
 // Writes a case at the start of a buffer, where the buffer has room for all of it.
-pub fn write(c: Case, buf: &mut [u8]) -> Written
+pub fn write(c: Case, buf: &mut [u8]) -> Result<usize, WriteError>
     requires { Sound c }
     ensures value { result ≡ written_of (file_of (items_of c)) (length buf.old) }
     ensures buf_after { buf.new ≡ buffer_after (file_of (items_of c)) buf.old }
 {
-    let count = c.count;
-    let size = count.total() * Record::LENGTH;
+    let size = c.count.total() * Record::LENGTH;
     let is_short = buf.len() < size;
     if is_short {
-        return Written::TooShort;
+        return Err(WriteError::TooShort);
     }
-    let mut at: usize = 0;
-    let mut rank: usize = 0;
-    let mut n = count.of(Kind::State);
-    let mut i: usize = 0;
-    while rank < Kind::COUNT {
-        if i < n {
-            let kind = Kind::at(rank);
+    let mut at = 0;
+    for rank in 0..Kind::COUNT {
+        let kind = Kind::at(rank);
+        for i in 0..c.count.of(kind) {
             let here = &mut buf[at..];
             match kind {
                 Kind::State => record_writer::write_state(here, c.states[i]),
@@ -40,13 +36,8 @@ pub fn write(c: Case, buf: &mut [u8]) -> Written
                 Kind::Sentence => record_writer::write_sentence(here, c.sentences[i]),
                 Kind::Place => record_writer::write_place(here, c.places[i]),
             }
-            i += 1;
             at += Record::LENGTH;
-        } else {
-            rank += 1;
-            n = count.of(Kind::at(rank));
-            i = 0;
         }
     }
-    Written::All(size)
+    Ok(size)
 }

@@ -1,7 +1,5 @@
--- `checks::fits` meets its contract. The loop's invariant: each field passed is right. The measure is the fields left. Assumes nothing.
-use mathlib.Core.Path.{◌≡◌, ◌∙◌, sym, ap}
-use mathlib.Core.Bool.{not}
-use native.Mathlib.Omega.{arith}
+-- No field has a fault where the loop finds none that isn't right. Assumes nothing.
+use Rattle.std.proofs.Common.{◌≡◌, ◌∙◌, sym, ap, not, arith}
 use borrow.Author.Tests.{lt-ltb, le-ltb}
 use Rattle.laws.specs.Lowest.{lowest, from_more, found, not_found}
 use Rattle.record.specs.Layout.{fields}
@@ -15,32 +13,31 @@ use Rattle.checks.proofs.fits.Goals.{After-is_right}
 tested :
     (c : After-is_right) →
     let a = c.args in
-    wrong_at a.counts a.shape a.row c.loop-k.k ≡ not c.is_right.result
+    wrong_at a.counts a.shape a.row c.loop-f.f ≡ not c.is_right.result
 tested c =
-    let l = c.loop-k in
-    let a = c.args in
-    simp (at_is a.row.fields l.k l.invariant.1) (ap not (sym (simp c.rule_at.ensures at c.is_right.ensures)))
+    let l = c.loop-f in
+    simp (at_is c.args.row.fields l.f l.auto.f) (ap not (sym (simp c.rule_at.ensures at c.is_right.ensures)))
 
-pub loop-k-preserved : goal.loop-k-preserved
-loop-k-preserved c =
-    let l = c.loop-k in
+pub loop-f-preserved : goal.loop-f-preserved
+loop-f-preserved c =
+    let l = c.loop-f in
     let a = c.args in
-    (from_more (wrong_at a.counts a.shape a.row) fields 1 l.k (omega arith) (tested (goal.at.loop-k-preserved c).After-is_right ∙ ap not c.if-is_right.true) l.invariant.0, omega arith)
+    from_more (wrong_at a.counts a.shape a.row) fields 1 l.f (omega arith) (tested (goal.at.loop-f-preserved c).After-is_right ∙ ap not c.if-not-is_right.false) l.invariant
 
-pub returns-else-is_right : goal.returns-else-is_right
+pub returns-then-not-is_right : goal.returns-then-not-is_right
 unfolding faultless
-returns-else-is_right c =
-    let l = c.loop-k in
+returns-then-not-is_right c =
+    let l = c.loop-f in
     let a = c.args in
     let t = wrong_at a.counts a.shape a.row in
-    let e = found t fields 1 l.k (omega arith) (tested (goal.at.returns-else-is_right c).After-is_right ∙ ap not c.if-is_right.false) l.invariant.0 in
+    let e = found t fields 1 l.f (omega arith) (tested (goal.at.returns-then-not-is_right c).After-is_right ∙ ap not c.if-not-is_right.true) l.invariant in
     sym (le-ltb fields (lowest fields 1 t) (omega arith))
 
 pub returns : goal.returns
 unfolding faultless
 returns c =
-    let l = c.loop-k in
+    let l = c.loop-f in
     let a = c.args in
     let t = wrong_at a.counts a.shape a.row in
-    let e = not_found t fields 1 l.k (omega arith) l.invariant.0 in
+    let e = not_found t fields 1 l.f (omega arith) l.invariant in
     sym (lt-ltb fields (lowest fields 1 t) (omega arith))

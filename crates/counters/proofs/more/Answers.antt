@@ -8,8 +8,8 @@ use Rattle.kinds.specs.Kinds.{counters}
 use Rattle.counters.specs.Vectors.{value_at}
 use Rattle.counters.proofs.more.Goals as goal
 
-pub overflow_add-each : goal.overflow_add-each
-overflow_add-each c =
+pub overflow_add-at : goal.overflow_add-at
+overflow_add-at c =
     let j = c.loop-j.j in
     let f : SFits w64 (value_at c.args.a j) = search rules in
     let g : SFits w64 (value_at c.args.b j) = search rules in
@@ -22,4 +22,4 @@ loop-j-preserved c =
     let f : SFits w64 (value_at c.args.a m.j) = search rules in
     let g : SFits w64 (value_at c.args.b m.j) = search rules in
     let h : size (value_at c.args.a m.j) + size n * size (value_at c.args.b m.j) < 2 ^ 63 = rw (to_z-of_z c.ranges.n) (c.requires m.j (omega arith)) in
-    rw (more_read w64 {m = n} (to_z-of_z f) refl (to_z-of_z g) h) (fill_more _ counters m.each m.j (omega arith) m.invariant)
+    rw (more_read w64 {m = n} (to_z-of_z f) refl (to_z-of_z g) h) (fill_more _ counters m.at m.j (omega arith) m.invariant)

@@ -1,5 +1,5 @@
 -- The loop fills the values, with the numbers of the item more. Assumes nothing.
-use Prim.Native.Nat.{ℕ, ◌-◌, ◌≤◌, ◌<◌, ◌^◌}
+use Prim.Native.Nat.{ℕ, ◌≤◌, ◌<◌, ◌^◌}
 use lib.IntN.{pos, ◌+ℤ◌}
 use lib.ListN.{get_or}
 use Rattle.laws.specs.Sizes.{size}
@@ -9,7 +9,4 @@ use Rattle.counters.proofs.plus.Given as goal
 
 abbrev pub invariant-loop-j : goal.invariant-loop-j
 invariant-loop-j l =
-    FilledTo (λ i. get_or l.x i (pos 0) +ℤ get_or l.y i (pos 0)) counters l.each l.j × ((i : ℕ) → i < l.j → size (get_or l.y i (pos 0)) ≤ 2 ^ 15)
-
-abbrev pub decreases-loop-j : goal.decreases-loop-j
-decreases-loop-j l = counters - l.j
+    FilledTo (λ i. get_or l.v.at i (pos 0) +ℤ get_or l.u.at i (pos 0)) counters l.at l.j × ((i : ℕ) → i < l.j → size (get_or l.u.at i (pos 0)) ≤ 2 ^ 15)

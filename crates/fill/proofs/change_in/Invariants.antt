@@ -1,7 +1,7 @@
 -- The loop goes through the places. Assumes nothing.
 use mathlib.Core.Path.{◌≡◌}
 use mathlib.Core.Bool.{Bool, not}
-use Prim.Native.Nat.{ℕ, ◌-◌, ◌≤◌}
+use Prim.Native.Nat.{ℕ}
 use lib.Dec.{eqb}
 use lib.ListN.{get_or}
 use Rattle.rounds.specs.declared.Row.{Row}
@@ -14,7 +14,4 @@ abbrev pub is_steady : Row → ℕ → Bool
 is_steady r p = not (eqb (get_or r.at p 0) 2)
 
 abbrev pub invariant-loop-p : goal.invariant-loop-p
-invariant-loop-p l = (l.p ≤ l.n) × (change_in l.row l.n ≡ off_from (is_steady l.row) l.n l.p)
-
-abbrev pub decreases-loop-p : goal.decreases-loop-p
-decreases-loop-p l = l.n - l.p
+invariant-loop-p l = change_in l.row l.n ≡ off_from (is_steady l.row) l.n l.p

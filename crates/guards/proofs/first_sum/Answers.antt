@@ -10,5 +10,5 @@ pub returns-then-later : goal.returns-then-later
 returns-then-later c =
     rw c.if-later.true (add_read w64 (to_z-of_z c.ranges.a) (to_z-of_z c.ranges.d) c.requires)
 
-pub returns : goal.returns
-returns c = rw c.if-later.false (to_z-of_z c.ranges.a ∙ sym (+ℤ_idr c.args.a))
+pub returns-else-later : goal.returns-else-later
+returns-else-later c = rw c.if-later.false (to_z-of_z c.ranges.a ∙ sym (+ℤ_idr c.args.a))

@@ -10,7 +10,7 @@ use Rattle.tables.specs.Reads.{at_guards}
 use Rattle.guards.proofs.guard_at.Goals as goal
 
 pub returns-then-i-lt-GUARDS : goal.returns-then-i-lt-GUARDS
-returns-then-i-lt-GUARDS c = at_guards c.requires c.args.g _ (omega arith)
+returns-then-i-lt-GUARDS c = rw c.from-i.ensures (at_guards c.requires c.args.g _ (omega arith))
 
 pub returns : goal.returns
 returns c =

@@ -22,7 +22,7 @@ use Rattle.tables.specs.Reads.{mark_read}
 use Rattle.tables.specs.Known.{first_within, rounds_are, base_is, drift_is}
 use Rattle.guards.specs.SentenceSums.{guard_fits, guard_is}
 use Rattle.guards.proofs.guard_row.Goals as goal
-use Rattle.guards.proofs.guard_row.Goals.{After-code-code, After-rounds_of, In-loop-p, Start}
+use Rattle.guards.proofs.guard_row.Goals.{After-code-code, After-rounds_of-rounds, In-loop-p, Start}
 
 -- what guard g is over the rounds of each place
 abbrev guard_of : Items → ℕ → ℕ → Throughout
@@ -53,26 +53,30 @@ module _ (c : In-loop-p) where
   room : p < room_of kind.Place
   room = omega (arith, t.requires.0.room kind.Place)
 
-  within : get_or t.args.t.firsts.at p 0 < room_of kind.Place
+  -- the first place of its stretch
+  abbrev q : ℕ
+  q = get_or t.args.t.firsts.at p 0
+
+  within : q < room_of kind.Place
   within = first_within t.requires.0 (ap (λ (t : Tables). t.firsts) t.requires.1) p inside
 
 pub loop-p-init : goal.loop-p-init
 loop-p-init c = let s = (goal.at.loop-p-init c).Start in up_none (x s) s.args.i (guard_of (x s) s.args.g)
 
 pub bounds-places-q : goal.bounds-places-q
-bounds-places-q c = within (goal.at.bounds-places-q c).In-loop-p
+bounds-places-q c = rw c.from-q.ensures (within (goal.at.bounds-places-q c).In-loop-p)
 
 pub bounds-drifts-q : goal.bounds-drifts-q
-bounds-drifts-q c = within (goal.at.bounds-drifts-q c).In-loop-p
+bounds-drifts-q c = rw c.from-q.ensures (within (goal.at.bounds-drifts-q c).In-loop-p)
 
 -- what is read there
-module _ (c : After-rounds_of) where
+module _ (c : After-rounds_of-rounds) where
   abbrev l : In-loop-p
-  l = (goal.at.After-rounds_of c).In-loop-p
+  l = (goal.at.After-rounds_of-rounds c).In-loop-p
 
   known :
       Known (x (t l)) (start_of (x (t l))) (t l).args.g (p l) l.guard_at-guard.result
-      (get_or (t l).args.t.bases.at (p l) (record { at = [] })) (get_or (t l).args.c.drifts (get_or (t l).args.t.firsts.at (p l) 0) (record { at = [] }))
+      (get_or (t l).args.t.bases.at (p l) (record { at = [] })) (get_or (t l).args.c.drifts (q l) (record { at = [] }))
   known =
       let s = (t l).requires.0 in
       let e = (t l).requires.1 in
@@ -82,24 +86,24 @@ module _ (c : After-rounds_of) where
         drift = drift_is s (t l).requires.2 (ap (λ (t : Tables). t.firsts) e) (p l) (inside l) _;
       }
 
-  rounds : c.rounds_of.result ≡ rounds_of (loop_of (x (t l)).places (p l))
-  rounds = c.rounds_of.ensures ∙ rounds_are (t l).requires.0 (ap (λ (t : Tables). t.firsts) (t l).requires.1) (p l) (inside l)
+  rounds : c.rounds_of-rounds.result ≡ rounds_of (loop_of (x (t l)).places (p l))
+  rounds = rw c.from-q.ensures at c.rounds_of-rounds.ensures ∙ rounds_are (t l).requires.0 (ap (λ (t : Tables). t.firsts) (t l).requires.1) (p l) (inside l)
 
-pub guard_through-t-requires : goal.guard_through-t-requires
-guard_through-t-requires c = guard_fits (facts (t (l c)).args.c (t (l c)).requires.0) (known c) (rounds c) (room (l c))
+pub guard_through-requires : goal.guard_through-requires
+guard_through-requires c =
+    let r = (goal.at.guard_through-requires c).After-rounds_of-rounds in
+    let e = l r in
+    rw c.from-q.ensures (guard_fits (facts (t e).args.c (t e).requires.0) (known r) (rounds r) (room e))
 
 -- what is found is the code of place p
 module _ (c : After-code-code) where
   abbrev i : In-loop-p
-  i = l (goal.at.After-code-code c).After-rounds_of
+  i = l (goal.at.After-code-code c).After-rounds_of-rounds
 
   is : c.code-code.result ≡ code_of (guard_of (x (t i)) (t i).args.g (p i))
   is =
       c.code-code.ensures
-      ∙ ap code_of (c.guard_through-t.ensures ∙ guard_is (facts (t i).args.c (t i).requires.0) (known (goal.at.After-code-code c).After-rounds_of) (rounds (goal.at.After-code-code c).After-rounds_of))
-
-pub loop-p-smaller : goal.loop-p-smaller
-loop-p-smaller c = omega (arith, (i (goal.at.loop-p-smaller c).After-code-code).loop-p-test.true)
+      ∙ ap code_of (rw c.from-q.ensures at c.guard_through.ensures ∙ guard_is (facts (t i).args.c (t i).requires.0) (known (goal.at.After-code-code c).After-rounds_of-rounds) (rounds (goal.at.After-code-code c).After-rounds_of-rounds))
 
 pub loop-p-preserved : goal.loop-p-preserved
 loop-p-preserved c =

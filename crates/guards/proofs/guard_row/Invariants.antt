@@ -1,5 +1,5 @@
 -- The loop goes through the places. Assumes nothing.
-use Prim.Native.Nat.{ℕ, ◌-◌}
+use Prim.Native.Nat.{ℕ}
 use Rattle.items.specs.Lists.{Items}
 use Rattle.collector.specs.Cases.{items_of}
 use Rattle.meaning.specs.Run.{guard_at}
@@ -15,8 +15,5 @@ guard_of x g = guard_through x (start_of x) (guard_at x.guards g)
 
 abbrev pub invariant-loop-p : goal.invariant-loop-p
 invariant-loop-p l =
-    let x = items_of l.c in
+    let x = items_of l.fn.c in
     UpTo x l.i (guard_of x l.g) l.row l.off l.p
-
-abbrev pub decreases-loop-p : goal.decreases-loop-p
-decreases-loop-p l = l.c.count.places - l.p

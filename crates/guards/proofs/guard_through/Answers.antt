@@ -8,7 +8,7 @@ use native.Mathlib.Omega.{arith}
 use lib.IntN.{ℤ, pos, ◌+ℤ◌}
 use mir.Syntax.{w32, w64}
 use mir.Val.{SFits, to_z, of_z}
-use mir.Facts.{to_z-of_z, sfits_widen}
+use mir.Facts.{to_z-of_z}
 use Rattle.laws.specs.Sizes.{size, add_size}
 use Rattle.laws.specs.Tests.{cond_by}
 use Rattle.rounds.specs.Last.{last_of}
@@ -41,12 +41,6 @@ first_sum-first-requires c =
     let x = (t c).args in
     rw (a_read c, d_read c) (omega (arith, (t c).requires, sum_size x.g.coefficients.at (value_at x.base), sum_size x.g.coefficients.at (value_at x.drift)))
 
-bound_fits : (c : Start) → SFits w32 c.args.g.bound
-bound_fits c = search rules
-
-bound_wide : (c : Start) → SFits w64 (to_z w32 (of_z w32 c.args.g.bound))
-bound_wide c = rw (to_z-of_z (bound_fits c)) (sfits_widen tt (bound_fits c))
-
 first_read : (c : After-first_sum-first) →
     let x = (t (goal.at.After-first_sum-first c).After-dot-d).args in
     to_z w64 (of_z w64 c.first_sum-first.result) ≡ a (goal.at.After-first_sum-first c).After-dot-d +ℤ cond x.later (d (goal.at.After-first_sum-first c).After-dot-d) (pos 0)
@@ -74,4 +68,6 @@ unfolding through_by
 returns c =
     let f = (goal.at.returns c).After-first_sum-first in
     let b = (goal.at.After-first_sum-first f).After-dot-d in
-    c.through.ensures ∙ rw (first_read f, d_read b, to_z-of_z (bound_wide (t b)), to_z-of_z (bound_fits (t b)))
+    let g : SFits w32 (t b).args.g.bound = search rules in
+    let h : SFits w64 c.from.result = search rules in
+    c.through.ensures ∙ rw (first_read f, d_read b, to_z-of_z h, c.from.ensures, to_z-of_z g)

@@ -1,5 +1,5 @@
 -- The loop fills the numbers of the counters. Assumes nothing.
-use Rattle.std.proofs.Common.{◌+◌, ◌-◌}
+use Rattle.std.proofs.Common.{◌+◌}
 use Rattle.laws.specs.Tab.{FilledTo}
 use Rattle.record.specs.Layout.{at}
 use Rattle.kinds.specs.Kinds.{counters}
@@ -7,7 +7,4 @@ use Rattle.items.specs.Items.{short_of, integer_of}
 use Rattle.items.proofs.per_counter.Given as goal
 
 abbrev pub invariant-loop-j : goal.invariant-loop-j
-invariant-loop-j l = FilledTo (λ k. short_of (integer_of (at l.fields (l.from + k)))) counters l.each l.j
-
-abbrev pub decreases-loop-j : goal.decreases-loop-j
-decreases-loop-j l = counters - l.j
+invariant-loop-j l = FilledTo (λ k. short_of (integer_of (at l.row.fields (l.from + k)))) counters l.at l.j

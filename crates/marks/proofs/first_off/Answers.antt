@@ -1,6 +1,8 @@
 -- The loop goes through the sentences, each by its form. Assumes nothing.
 use borrow.Author.Rules.{rules}
+use Rattle.std.specs.Prelude.{Some}
 use mathlib.Core.Path.{◌≡◌, refl, ◌∙◌, sym, ap}
+use mathlib.Core.Logic.{inl, inr}
 use mathlib.Core.Bool.{Bool, cond}
 use mir.Syntax.{w32}
 use mir.Val.{SFits}
@@ -20,7 +22,7 @@ use Rattle.marks.specs.Wrong.{sentence_row, first_off_from}
 use Rattle.marks.specs.Known.{form_ranged, row_by, simple_by}
 use Rattle.marks.specs.Marks.{off_turn, off_end}
 use Rattle.marks.proofs.first_off.Goals as goal
-use Rattle.marks.proofs.first_off.Goals.{in-True, in-Proposition, in-Guard, in-And, in-Not, in-Next, in-Until, In-loop-i, Joined-form, Start}
+use Rattle.marks.proofs.first_off.Goals.{in-True, in-Guard, in-Next, in-Until, In-loop-i, Joined-form, Start}
 
 -- what is given: the items, the first places, and as many sentences as are counted
 module _ (c : Start) where
@@ -63,11 +65,15 @@ module _ (c : Joined-form) where
   row_is =
       let s = (b l).requires.0 in
       elim c.match-form.branch [
-        | in-True w ↦ w.row-is ∙ w.simple_row-row.ensures ∙ simple_by s (i l) w.in-True.is refl
-        | in-Proposition w ↦ w.row-is ∙ w.simple_row-row-in-Proposition.ensures ∙ simple_by s (i l) w.in-Proposition.is refl
+        | in-True w ↦ w.row-is ∙ w.simple_row-row.ensures
+            ∙ elim w.in-True.is [
+              | inl e ↦ simple_by s (i l) e refl
+              | inr o ↦ elim o [
+                | inl e ↦ simple_by s (i l) e.1 refl
+                | inr d ↦ elim d [ inl e ↦ simple_by s (i l) e.2 refl | inr e ↦ simple_by s (i l) e.1 refl ]
+              ]
+            ]
         | in-Guard w ↦ w.row-is ∙ w.guard_row-row.ensures ∙ row_by s (i l) w.in-Guard.is
-        | in-And w ↦ w.row-is ∙ w.simple_row-row-in-And.ensures ∙ simple_by s (i l) w.in-And.is refl
-        | in-Not w ↦ w.row-is ∙ w.simple_row-row-in-Not.ensures ∙ simple_by s (i l) w.in-Not.is refl
         | in-Next w ↦ w.row-is ∙ w.next_row-row.ensures ∙ row_by s (i l) w.in-Next.is
         | in-Until w ↦
             let z : SFits w32 w.in-Until.bound = search rules in
@@ -76,14 +82,17 @@ module _ (c : Joined-form) where
 
   -- what is found from there on
   turn : first_off_from (x (b l)) (i l)
-      ≡ cond c.match-form.row.off (record { sentence = i l; row = c.match-form.row }) (first_off_from (x (b l)) (i l + 1))
+      ≡ cond c.match-form.row.off (Some (record { sentence = i l; row = c.match-form.row })) (first_off_from (x (b l)) (i l + 1))
   turn =
       off_turn (x (b l)) (i l) (omega (arith, held (b l), l.loop-i-test.true))
-      ∙ ap (λ (r : Row). cond r.off (record { sentence = i l; row = r }) (first_off_from (x (b l)) (i l + 1))) (sym row_is)
+      ∙ ap (λ (r : Row). cond r.off (Some (record { sentence = i l; row = r })) (first_off_from (x (b l)) (i l + 1))) (sym row_is)
 
   by_off : (t : Bool) → c.match-form.row.off ≡ t →
-      first_off_from (x (b l)) (i l) ≡ cond t (record { sentence = i l; row = c.match-form.row }) (first_off_from (x (b l)) (i l + 1))
-  by_off t e = turn ∙ ap (λ d. cond d (record { sentence = i l; row = c.match-form.row }) (first_off_from (x (b l)) (i l + 1))) e
+      first_off_from (x (b l)) (i l) ≡ cond t (Some (record { sentence = i l; row = c.match-form.row })) (first_off_from (x (b l)) (i l + 1))
+  by_off t e = turn ∙ ap (λ d. cond d (Some (record { sentence = i l; row = c.match-form.row })) (first_off_from (x (b l)) (i l + 1))) e
+
+pub loop-i-init : goal.loop-i-init
+loop-i-init c = refl
 
 pub returns-then-row : goal.returns-then-row
 returns-then-row c = let m = (goal.at.returns-then-row c).Joined-form in sym ((l m).loop-i.invariant ∙ by_off m _ c.if-row.true)

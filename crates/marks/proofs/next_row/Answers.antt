@@ -42,10 +42,10 @@ loop-p-init c =
     let x = items_of t.args.c in
     let n = t.args.c.count.places in
     let k = counted t.args.c t.requires.0 kind.Place in
-    (omega arith, (sym (unmarked x t.args.a n (omega (arith, k))), down_none x t.args.i (next_through x t.args.a) (omega (arith, k))))
+    (sym (unmarked x t.args.a n (omega (arith, k))), down_none x t.args.i (next_through x t.args.a) (omega (arith, k)))
 
-pub bounds-places-q : goal.bounds-places-q
-bounds-places-q c = within (goal.at.bounds-places-q c).In-loop-p
+pub bounds-c-q : goal.bounds-c-q
+bounds-c-q c = within (goal.at.bounds-c-q c).In-loop-p
 
 pub next_through-t-requires : goal.next_through-t-requires
 next_through-t-requires c =
@@ -64,7 +64,7 @@ module _ (c : After-code-code) where
       let e : m.p ≡ suc (p l) = omega arith in
       c.code-code.ensures
       ∙ ap code_of
-      (c.next_through-t.ensures ∙ next_is (t l).requires.0 (t l).requires.1 (p l) (held l) a c.bit.ensures (m.invariant.1.0 ∙ ap (marked (items_of (t l).args.c) a) e))
+      (c.next_through-t.ensures ∙ next_is (t l).requires.0 (t l).requires.1 (p l) (held l) a c.bit.ensures (m.invariant.0 ∙ ap (marked (items_of (t l).args.c) a) e))
 
 pub loop-p-preserved : goal.loop-p-preserved
 loop-p-preserved c =
@@ -73,12 +73,9 @@ loop-p-preserved c =
     let m = k.loop-p in
     let s = (t k).requires.0 in
     let x = items_of (t k).args.c in (
-      omega arith,
-      (
-        c.bit-out.ensures ∙ mark_read s (t k).args.a (p k),
-        down_more x (t k).args.i (next_through x (t k).args.a) m.off (omega arith) (omega (arith, held k)) (omega (arith, inside k)) (is r)
-            (c.bit-in-loop-p.ensures ∙ mark_read s (t k).args.i (p k)) c.off_by-off.ensures m.invariant.1.1,
-      ),
+      c.bit-out.ensures ∙ mark_read s (t k).args.a (p k),
+      down_more x (t k).args.i (next_through x (t k).args.a) m.off (omega arith) (omega (arith, held k)) (omega (arith, inside k)) (is r)
+          (c.bit-in-loop-p.ensures ∙ mark_read s (t k).args.i (p k)) c.off_by-off.ensures m.invariant.1,
     )
 
 pub returns : goal.returns
@@ -86,4 +83,4 @@ returns c =
     let t = (goal.at.returns c).Start in
     let x = items_of t.args.c in
     let e : c.loop-p.p ≡ 0 = omega arith in
-    down_all x t.args.i (next_through x t.args.a) (rw e at c.loop-p.invariant.1.1)
+    down_all x t.args.i (next_through x t.args.a) (rw e at c.loop-p.invariant.1)

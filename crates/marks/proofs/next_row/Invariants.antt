@@ -1,17 +1,13 @@
 -- The loop goes from the last place to the first: out tells whether the sentence is marked at place p, and the row is done from there on.
 -- Assumes nothing.
 use mathlib.Core.Path.{◌≡◌}
-use Prim.Native.Nat.{◌≤◌}
 use Rattle.meaning.specs.Judged.{marked}
 use Rattle.verdict.specs.Verdict.{next_through}
-use Rattle.tables.specs.Reads.{places_only}
+use Rattle.collector.specs.Cases.{items_of}
 use Rattle.rounds.specs.Codes.{DownTo}
 use Rattle.marks.proofs.next_row.Given as goal
 
 abbrev pub invariant-loop-p : goal.invariant-loop-p
 invariant-loop-p l =
-    let x = places_only l.places l.n in
-    (l.p ≤ l.n) × ((l.out ≡ marked x l.a l.p) × DownTo x l.i (next_through x l.a) l.row l.off l.p)
-
-abbrev pub decreases-loop-p : goal.decreases-loop-p
-decreases-loop-p l = l.p
+    let x = items_of l.c in
+    (l.out ≡ marked x l.a l.p) × DownTo x l.i (next_through x l.a) l.row l.off l.p

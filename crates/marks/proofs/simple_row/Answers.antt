@@ -15,7 +15,7 @@ use Rattle.tables.specs.Reads.{mark_read}
 use Rattle.marks.specs.Wrong.{simple_through}
 use Rattle.marks.specs.Known.{state_within, simple_is}
 use Rattle.marks.proofs.simple_row.Goals as goal
-use Rattle.marks.proofs.simple_row.Goals.{After-mark_code-code, At-loop-p, Start}
+use Rattle.marks.proofs.simple_row.Goals.{After-mark_code-code, In-loop-p, Start}
 
 -- the items, what the sentence is at each place, and the number of places
 module _ (c : Start) where
@@ -31,16 +31,16 @@ module _ (c : Start) where
 pub loop-p-init : goal.loop-p-init
 loop-p-init c = let t = (goal.at.loop-p-init c).Start in up_none (x t) t.args.i (f t)
 
-pub bounds-states-s : goal.bounds-states-s
-bounds-states-s c = state_within c.requires c.loop-p.p
+pub bounds-c-s : goal.bounds-c-s
+bounds-c-s c = state_within c.requires c.loop-p.p
 
 -- what is found is the code of place p, which is held
 module _ (c : After-mark_code-code) where
-  abbrev l : At-loop-p
-  l = (goal.at.After-mark_code-code c).At-loop-p
+  abbrev l : In-loop-p
+  l = (goal.at.After-mark_code-code c).In-loop-p
 
   abbrev t : Start
-  t = (goal.at.At-loop-p l).Start
+  t = (goal.at.In-loop-p l).Start
 
   room : l.loop-p.p < room_of kind.Place
   room = omega (arith, t.requires.room kind.Place)
@@ -59,6 +59,5 @@ loop-p-preserved c =
 
 pub returns : goal.returns
 returns c =
-    let m = (goal.at.returns c).At-loop-p in
-    let t = (goal.at.At-loop-p m).Start in
-    up_all (x t) t.args.i (f t) (omega (arith, held t)) m.loop-p.invariant
+    let t = (goal.at.returns c).Start in
+    up_all (x t) t.args.i (f t) (omega (arith, held t)) c.loop-p.invariant

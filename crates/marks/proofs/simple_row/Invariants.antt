@@ -1,5 +1,4 @@
 -- The loop goes through the places. Assumes nothing.
-use Prim.Native.Nat.{◌-◌}
 use Rattle.collector.specs.Cases.{items_of}
 use Rattle.rounds.specs.Codes.{UpTo}
 use Rattle.marks.specs.Wrong.{simple_through}
@@ -9,6 +8,3 @@ abbrev pub invariant-loop-p : goal.invariant-loop-p
 invariant-loop-p l =
     let x = items_of l.c in
     UpTo x l.i (simple_through x l.form) l.row l.off l.p
-
-abbrev pub decreases-loop-p : goal.decreases-loop-p
-decreases-loop-p l = l.c.count.places - l.p

@@ -3,26 +3,21 @@ use mathlib.Core.Path.{◌≡◌, sym, ◌∙◌, ap}
 use mathlib.Core.Bool.{Bool, true, false}
 use Prim.Native.Nat.{ℕ, ◌<◌}
 use native.Mathlib.Omega.{arith}
-use lib.Dec.{eqb}
-use lib.ListN.{length, get_or}
+use lib.ListN.{length}
 use borrow.Author.Tests.{eq-eqb, ne_eqb}
 use Rattle.kinds.specs.declared.Kind.TheVariants as kind
 use Rattle.items.specs.declared.Place.{Place}
-use Rattle.items.specs.Lists.{Items, room_of}
+use Rattle.items.specs.Lists.{room_of}
 use Rattle.collector.specs.Cases.{items_of}
 use Rattle.rules_laws.specs.Held.{counted}
 use Rattle.meaning.specs.Truth.{bit}
 use Rattle.meaning.specs.Judged.{marked}
-use Rattle.rounds.specs.declared.Row.{Row}
 use Rattle.rounds.specs.Rows.{mark_code}
 use Rattle.rounds.specs.Search.{off_here, off_later, off_end}
 use Rattle.tables.specs.Reads.{at_places}
+use Rattle.marks.proofs.wrong_in.Invariants.{is_right}
 use Rattle.marks.proofs.wrong_in.Goals as goal
 use Rattle.marks.proofs.wrong_in.Goals.{After-mark_code, In-loop-p, Start}
-
--- the mark of sentence i at place p is as the row says
-abbrev is_right : Items → ℕ → Row → ℕ → Bool
-is_right x i r p = eqb (get_or r.at p 0) (mark_code (marked x i p))
 
 -- the number of places and the test
 module _ (c : Start) where
@@ -72,4 +67,5 @@ loop-p-preserved c =
 pub returns : goal.returns
 returns c =
     let s = (goal.at.returns c).Start in
-    sym (c.loop-p.invariant ∙ off_end (ok s) (n s) c.loop-p.p (omega (arith, held s)))
+    let e : c.loop-p.p ≡ c.args.c.count.places = omega arith in
+    sym (c.loop-p.invariant ∙ off_end (ok s) (n s) c.loop-p.p (omega (arith, held s)) ∙ e)

@@ -15,12 +15,12 @@ pub returns : goal.returns
 unfolding sum_over
 returns c =
     let room : length c.args.buf.now ≡ most_printed = search rules in
-    let n = c.told.result.second in
+    let n = c.unwrap_or.result in
     let buf = c.match-word.buf in
     let by = λ (v : Word) (e : c.args.word ≡ v) (h : length (printed v c.args.src.now) ≤ length c.args.buf.now)
     (w : c.match-word.written ≡ written_of (printed v c.args.src.now) (length c.args.buf.now)) (b : buf ≡ buffer_after (printed v c.args.src.now) c.args.buf.now).
     subst (λ u. IsPrefixLen n buf × (take n buf ≡ printed u c.args.src.now)) (sym e)
-    (all_printed (printed v c.args.src.now) c.args.buf.now h w b c.told.ensures) in
+    (all_printed (printed v c.args.src.now) c.args.buf.now h w b c.unwrap_or.ensures) in
     let both : IsPrefixLen n buf × (take n buf ≡ printed c.args.word c.args.src.now) =
     elim c.match-word.branch [
       | in-Fill w ↦

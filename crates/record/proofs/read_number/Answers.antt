@@ -1,11 +1,7 @@
 -- `record::read_number` meets its contract. Assumes nothing.
-use borrow.Author.Rules.{rules}
-use mathlib.Core.Path.{◌∙◌, sym}
+use Rattle.std.proofs.Common.{rules, arith, ◌∙◌, sym, ap, ◌+◌, ◌≤◌, get_or, drop}
 use mathlib.Core.Logic.{⊎_elim}
-use Prim.Native.Nat.{◌≤◌}
-use native.Mathlib.Omega.{arith}
-use lib.ListN.{get_or}
-use Rattle.record.specs.Spelling.{digit}
+use Rattle.record.specs.Spelling.{digit, digits}
 use Rattle.record.proofs.Small.{pow_one, pow_more}
 use Rattle.record.proofs.Steps.{is_digit, too_low, too_high, leading_more, leading_bad}
 use Rattle.record.proofs.read_number.Goals as goal
@@ -22,13 +18,13 @@ returns-then-is_low c =
 at_most : (c : Else-b-gt57) → let a = c.args in get_or a.part.now a.at 0 ≤ digit 9
 at_most c = c.if-b-gt57.false
 
-pub overflow_cast-b : goal.overflow_cast-b
-overflow_cast-b c = omega (arith, at_most c)
-
 pub read_digits-requires : goal.read_digits-requires
 read_digits-requires c =
     let i = c.args.at in
-    (search rules, (search rules, omega (arith, at_most c, pow_one i, pow_more i)))
+    (search rules, (search rules, omega (arith, c.from.ensures, at_most (goal.at.read_digits-requires c).Else-b-gt57, pow_one i, pow_more i)))
 
 pub returns : goal.returns
-returns c = c.read_digits.ensures ∙ sym (leading_more _ _ _ _ (is_digit 1 _ c.if-is_low.false c.if-b-gt57.false))
+returns c =
+    let a = c.args in
+    let first = leading_more a.neg a.at _ (drop (a.at + 1) a.part.now) (is_digit 1 _ c.if-is_low.false c.if-b-gt57.false) in
+    c.read_digits.ensures ∙ ap (λ n. digits a.neg n (a.at + 1) (drop (a.at + 1) a.part.now)) c.from.ensures ∙ sym first

@@ -1,23 +1,19 @@
--- `tool::set` meets its contract: the records of the file are taken; where one is refused its line is printed, and else what the word makes of the
--- case, which is sound. Assumes nothing.
+-- The records of the file are taken; where one is refused its line is printed, and else what the word makes of the case. Assumes nothing.
 use Rattle.laws.specs.All.{sum_over}
 use Rattle.tool.specs.Outputs.{case_set, set_output}
-use Rattle.tool.proofs.Laws.{collected_sound, taken_printed, refused_printed}
+use Rattle.tool.proofs.Laws.{taken_printed, refused_printed}
 use Rattle.tool.proofs.set.Goals as goal
 
-pub set_case-requires : goal.set_case-requires
-set_case-requires c = collected_sound c.args.src.now c.empty.ensures c.take_all-run.ensures
-
-pub returns-then-is_taken : goal.returns-then-is_taken
+pub returns-in-Ok : goal.returns-in-Ok
 unfolding set_output sum_over
-returns-then-is_taken c =
-    let p = taken_printed c.args.src.now c.empty.ensures c.take_all-run.ensures (case_set c.args.k c.args.n) c.args.buf.now c.is_taken.ensures c.if-is_taken.true
-    (c.set_case.ensures.value, (c.set_case.ensures.buf_after, c.set_case.ensures.c_len_bound)) in
+returns-in-Ok c =
+    let e = c.set_case.ensures in
+    let p = taken_printed (case_set c.args.k c.args.n) c.args.src.now c.args.buf.now c.read_case.ensures.value c.in-Ok.is (e.value, (e.buf_after, e.c_len_bound)) in
     record { value = p.0; buf_after = p.1.0; src_value = p.1.1.0; src_len_bound = p.1.1.1 }
 
-pub returns : goal.returns
+pub returns-in-Err : goal.returns-in-Err
 unfolding set_output sum_over
-returns c =
-    let p = refused_printed c.args.src.now c.empty.ensures c.take_all-run.ensures (case_set c.args.k c.args.n) c.args.buf.now c.is_taken.ensures c.if-is_taken.false
-    c.refused.ensures (c.write_line.ensures.value, (c.write_line.ensures.buf_after, c.write_line.ensures.told_len_bound)) in
+returns-in-Err c =
+    let e = c.write_line.ensures in
+    let p = refused_printed (case_set c.args.k c.args.n) c.args.src.now c.args.buf.now c.read_case.ensures.value c.in-Err.is (e.value, (e.buf_after, e.told_len_bound)) in
     record { value = p.0; buf_after = p.1.0; src_value = p.1.1.0; src_len_bound = p.1.1.1 }

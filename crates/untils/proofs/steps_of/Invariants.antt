@@ -1,5 +1,4 @@
 -- The loop fills both tables, up to the last place that is held. Assumes nothing.
-use Prim.Native.Nat.{◌-◌}
 use Rattle.laws.specs.Ready.{Ready}
 use Rattle.kinds.specs.declared.Kind.TheVariants as kind
 use Rattle.collector.specs.Cases.{items_of}
@@ -10,8 +9,5 @@ use Rattle.untils.proofs.steps_of.Given as goal
 
 abbrev pub invariant-loop-p : goal.invariant-loop-p
 invariant-loop-p l =
-    (Ready (stop_at (items_of l.c) l.b) (room_of kind.Place) l.c.count.places none l.stops l.p)
-    × (Ready (go_at (items_of l.c) l.a l.t l.u) (room_of kind.Place) l.c.count.places none l.goes l.p)
-
-abbrev pub decreases-loop-p : goal.decreases-loop-p
-decreases-loop-p l = l.c.count.places - l.p
+    (Ready (stop_at (items_of l.fn.c) l.b) (room_of kind.Place) l.fn.c.count.places none l.stops l.p)
+    × (Ready (go_at (items_of l.fn.c) l.a l.t l.u) (room_of kind.Place) l.fn.c.count.places none l.goes l.p)

@@ -1,6 +1,4 @@
--- From the last place that is held to the first: whatever labels the steps are of, first and last show their best sums at place p, and the row is done from
--- p on. (The terms of the until and the case are no longer at hand in the loop: its invariant is about all such labels, and about the places alone.)
--- Assumes nothing.
+-- From the last place that is held to the first: first and last show their best sums at place p, and the row is done from p on. Assumes nothing.
 use mathlib.Core.Path.{◌≡◌, ◌∙◌, ap, ap₂}
 use Prim.Native.Nat.{ℕ, ◌-◌, ◌≤◌, ◌<◌}
 use native.Mathlib.Omega.{arith}
@@ -9,7 +7,7 @@ use lib.ListN.{length, get_or}
 use lib.Signed.{le_z}
 use mir.Syntax.{w32, w64}
 use mir.Val.{SFits, to_z, of_z}
-use mir.Facts.{to_z-of_z, sfits_widen}
+use mir.Facts.{to_z-of_z}
 use Rattle.laws.specs.Sizes.{fits_size}
 use Rattle.kinds.specs.declared.Kind.TheVariants as kind
 use Rattle.items.specs.declared.LoopMark.{LoopMark}
@@ -35,7 +33,7 @@ use Rattle.untils.specs.Light.{mild_light}
 use Rattle.untils.specs.Steps.{steps_are}
 use Rattle.untils.specs.Untils.{Shown, After, both_read, Turn, turn_read, turn_fits, turn_out, turn_on, turn_small, turn_step, shown_past, until_is}
 use Rattle.untils.proofs.until_row.Goals as goal
-use Rattle.untils.proofs.until_row.Goals.{then-q-stretch, else-q-stretch, After-code-code, After-step-last, After-steps_of-steps, In-loop-p, Joined-q-stretch, Start}
+use Rattle.untils.proofs.until_row.Goals.{then-q-stretch, else-q-stretch, After-code-code, After-from-q, After-step-last, After-steps_of-steps, Joined-q-stretch, Start}
 
 module _ (c : After-steps_of-steps) where
   abbrev t : Start
@@ -61,16 +59,23 @@ module _ (c : After-steps_of-steps) where
   are : StepsAre labels s g
   are = steps_are labels c.steps_of-steps.ensures
 
+  -- the bound, as the code reads it
+  abbrev z : ℤ
+  z = to_z w32 (of_z w32 t.args.bound)
+
+  z_is : z ≡ t.args.bound
+  z_is = to_z-of_z t.ranges.bound
+
   count_is : length x.places ≡ t.args.c.count.places
   count_is = counted t.args.c t.requires.0 kind.Place
 
   few : length x.places ≤ room_of kind.Place
   few = omega (arith, count_is, t.requires.0.room kind.Place)
 
-module _ (c : In-loop-p) where
+module _ (c : After-from-q) where
   -- what is known before the loop
   abbrev b : After-steps_of-steps
-  b = (goal.at.In-loop-p c).After-steps_of-steps
+  b = (goal.at.After-from-q c).After-steps_of-steps
 
   -- the place of this turn is the one before i
   abbrev i : ℕ
@@ -81,16 +86,16 @@ module _ (c : In-loop-p) where
 
   -- the first place of its stretch, and what stands there
   abbrev q : ℕ
-  q = get_or (t b).args.firsts.at p 0
+  q = c.from-q.result
 
   abbrev mark : LoopMark
   mark = (get_or (t b).args.c.places q (no_item kind.Place)).mark
 
   below : p < room_of kind.Place
-  below = omega (arith, few b)
+  below = omega (arith, few b, count_is b)
 
   first_is : q ≡ first_of (x b).places p
-  first_is = first_at (x b).places (t b).requires.1.0 p (omega arith)
+  first_is = c.from-q.ensures ∙ first_at (x b).places (t b).requires.1.0 p (omega (arith, count_is b))
 
   first_in : q < room_of kind.Place
   first_in = first_below (t b).requires.0 p below first_is
@@ -98,47 +103,39 @@ module _ (c : In-loop-p) where
   mark_here : mark ≡ loop_of (x b).places p
   mark_here = mark_is (t b).requires.0 p below first_is
 
-  -- what the turn stands on, where the steps are of the labels l
-  abbrev TurnOf : (ℕ → Label) → Type 0
-  TurnOf l = Turn (x b) l (s b) (g b) i
+  -- what the turn stands on
+  turn : Turn (x b) (labels b) (s b) (g b) i
+  turn = record { facts = facts (t b).args.c (t b).requires.0; light = light b; are = are b; some = omega arith; held = omega (arith, count_is b) }
 
-  turn : (l : ℕ → Label) → Light l → StepsAre l (s b) (g b) → TurnOf l
-  turn l h k = record { facts = facts (t b).args.c (t b).requires.0; light = h; are = k; some = c.loop-p-test.true; held = c.loop-p.invariant.0 }
-
-  own : TurnOf (labels b)
-  own = turn (labels b) (light b) (are b)
-
-  shown : {l : ℕ → Label} → TurnOf l → Shown (x b) l i (to_z w64 c.loop-p.first-bits) (to_z w64 c.loop-p.last-bits)
-  shown {l} o = (c.loop-p.invariant.1 l o.light o.are).0
-
-pub overflow_cast-z : goal.overflow_cast-z
-overflow_cast-z c = let f = c.ranges.bound in rw (to_z-of_z f) (sfits_widen tt f)
+  shown : Shown (x b) (labels b) i (to_z w64 c.loop-p.first-bits) (to_z w64 c.loop-p.last-bits)
+  shown = c.loop-p.invariant.0
 
 pub loop-p-init : goal.loop-p-init
 loop-p-init c =
-    let e = count_is c in
-    (omega (arith, e), λ l light are. (shown_past (x c) l _ (omega (arith, e)), down_none (x c) (t c).args.i (untils_of (x c) l (to_z w32 (of_z w32 (t c).args.bound))) (omega (arith, e))))
+    let b = (goal.at.loop-p-init c).After-steps_of-steps in
+    let e = count_is b in
+    (shown_past (x b) (labels b) _ (omega (arith, e)), down_none (x b) (t b).args.i (untils_of (x b) (labels b) (z b)) (omega (arith, e)))
 
 pub bounds-places-q : goal.bounds-places-q
-bounds-places-q c = first_in (goal.at.bounds-places-q c).In-loop-p
+bounds-places-q c = first_in (goal.at.bounds-places-q c).After-from-q
 
 pub overflow_add-q : goal.overflow_add-q
 overflow_add-q c =
-    let k = (goal.at.overflow_add-q c).In-loop-p in
+    let k = (goal.at.overflow_add-q c).After-from-q in
     omega (arith, end_in (t (b k)).requires.0 (p k) (below k) (first_is k) c.stretch.ensures)
 
 pub around-ends-requires : goal.around-ends-requires
 around-ends-requires c =
-    let k = (goal.at.around-ends-requires c).In-loop-p in
-    turn_fits (own k) (shown k (own k)) (first_is k) (mark_here k)
+    let k = (goal.at.around-ends-requires c).After-from-q in
+    turn_fits (turn k) (shown k) (first_is k) (mark_here k)
 
 -- after the test for the end of a stretch
 module _ (c : Joined-q-stretch) where
-  abbrev k : In-loop-p
-  k = (goal.at.Joined-q-stretch c).In-loop-p
+  abbrev k : After-from-q
+  k = (goal.at.Joined-q-stretch c).After-from-q
 
-  after : {l : ℕ → Label} → TurnOf k l → After (x (b k)) l (i k) (to_z w64 c.if-q-stretch.first-bits) (to_z w64 c.if-q-stretch.last-bits)
-  after o =
+  after : After (x (b k)) (labels (b k)) (i k) (to_z w64 c.if-q-stretch.first-bits) (to_z w64 c.if-q-stretch.last-bits)
+  after =
       let e = c.stretch.ensures in
       let z = around_by (s (b k)) (g (b k)) (q k) (mark k) (to_z w64 k.loop-p.first-bits) in
       elim c.if-q-stretch.branch [
@@ -147,21 +144,21 @@ module _ (c : Joined-q-stretch) where
             let h : SFits w64 w.around-ends.result.last = search rules in
             both_read (w.first-is ∙ to_z-of_z f ∙ ap (λ (y : Ends). y.first) {y = z} w.around-ends.ensures)
             (w.last-is ∙ to_z-of_z h ∙ ap (λ (y : Ends). y.last) {y = z} w.around-ends.ensures)
-            (turn_out o (shown k o) (first_is k) (mark_here k) (omega (arith, e, w.if-q-stretch.true)))
-        | else-q-stretch w ↦ both_read w.first-is w.last-is (turn_on o (shown k o) (first_is k) (mark_here k) (omega (arith, e, w.if-q-stretch.false)))
+            (turn_out (turn k) (shown k) (first_is k) (mark_here k) (omega (arith, e, w.if-q-stretch.true)))
+        | else-q-stretch w ↦ both_read w.first-is w.last-is (turn_on (turn k) (shown k) (first_is k) (mark_here k) (omega (arith, e, w.if-q-stretch.false)))
       ]
 
 pub step-first-requires : goal.step-first-requires
 step-first-requires c =
     let j = (goal.at.step-first-requires c).Joined-q-stretch in
-    let o = own (k j) in
-    rw (turn_read o).1 (turn_small o (after j o)).0
+    let o = turn (k j) in
+    rw (turn_read o).1 (turn_small o (after j)).0
 
 pub step-last-requires : goal.step-last-requires
 step-last-requires c =
     let j = (goal.at.step-last-requires c).Joined-q-stretch in
-    let o = own (k j) in
-    rw (turn_read o).1 (turn_small o (after j o)).1
+    let o = turn (k j) in
+    rw (turn_read o).1 (turn_small o (after j)).1
 
 -- at the end of the turn
 module _ (c : After-code-code) where
@@ -174,43 +171,38 @@ module _ (c : After-code-code) where
   abbrev a : After-steps_of-steps
   a = b (k j)
 
-  next : {l : ℕ → Label} → TurnOf (k j) l → Shown (x a) l (p (k j)) (to_z w64 (of_z w64 n.step-first.result)) (to_z w64 (of_z w64 n.step-last.result))
-  next o =
+  next : Shown (x a) (labels a) (p (k j)) (to_z w64 (of_z w64 n.step-first.result)) (to_z w64 (of_z w64 n.step-last.result))
+  next =
+      let o = turn (k j) in
       let e = turn_read o in
       both_read ((let f : SFits w64 n.step-first.result = search rules in to_z-of_z f) ∙ n.step-first.ensures ∙ ap₂ (λ a b. step_by a b (to_z w64 j.if-q-stretch.first-bits)) e.0 e.1)
       ((let f : SFits w64 n.step-last.result = search rules in to_z-of_z f) ∙ n.step-last.ensures ∙ ap₂ (λ a b. step_by a b (to_z w64 j.if-q-stretch.last-bits)) e.0 e.1)
-      (turn_step o (after j o))
+      (turn_step o (after j))
 
-  -- the bound, as the code reads it
-  abbrev z : ℤ
-  z = to_z w32 (of_z w32 (t a).args.bound)
+  z_read : to_z w64 (of_z w64 c.from-z.result) ≡ z a
+  z_read = (let f : SFits w64 c.from-z.result = search rules in to_z-of_z f) ∙ c.from-z.ensures
 
-  is : {l : ℕ → Label} → TurnOf (k j) l → c.code-code.result ≡ code_of (untils_of (x a) l z (p (k j)))
-  is {l} o =
-      let f : SFits w32 z = rw (to_z-of_z (t a).ranges.bound) (t a).ranges.bound in
+  is : c.code-code.result ≡ code_of (untils_of (x a) (labels a) (z a) (p (k j)))
+  is =
       let u = to_z w64 (of_z w64 n.step-first.result) in
       let v = to_z w64 (of_z w64 n.step-last.result) in
       c.code-code.ensures
-      ∙ ap code_of (c.agree.ensures ∙ ap (λ (y : ℤ). agree (le_z y u) (le_z y v)) (to_z-of_z (overflow_cast-z a))
-      ∙ until_is (x a) l (p (k j)) (few a) (next o) z (fits_size w32 z f))
+      ∙ ap code_of (c.agree.ensures ∙ ap (λ (y : ℤ). agree (le_z y u) (le_z y v)) z_read
+      ∙ until_is (x a) (labels a) (p (k j)) (few a) next (z a) (rw (z_is a) (fits_size w32 (t a).args.bound (t a).ranges.bound)))
 
 pub loop-p-preserved : goal.loop-p-preserved
 loop-p-preserved c =
     let r = (goal.at.loop-p-preserved c).After-code-code in
     let y = k (j r) in
-    let v = t (b y) in (
-      omega (arith, y.loop-p.invariant.0),
-      λ l light are.
-          let o = turn y l light are in (
-            next r o,
-            down_more (x (b y)) v.args.i (untils_of (x (b y)) l (z r)) y.loop-p.off o.some o.held (omega (arith, o.held, few (b y))) (is r o)
-                (c.bit.ensures ∙ mark_read v.requires.0 v.args.i (p y)) c.off_by-off.ensures (y.loop-p.invariant.1 l light are).1,
-          ),
+    let v = t (b y) in
+    let o = turn y in (
+      next r,
+      down_more (x (b y)) v.args.i (untils_of (x (b y)) (labels (b y)) (z (b y))) y.loop-p.off o.some o.held (omega (arith, o.held, few (b y))) (is r)
+          (c.bit.ensures ∙ mark_read v.requires.0 v.args.i (p y)) c.off_by-off.ensures y.loop-p.invariant.1,
     )
 
 pub returns : goal.returns
 returns c =
     let a = (goal.at.returns c).After-steps_of-steps in
     let h : c.loop-p.p ≡ 0 = omega arith in
-    down_all (x a) (t a).args.i (untils_of (x a) (labels a) (t a).args.bound)
-    (rw (h, to_z-of_z (t a).ranges.bound) at (c.loop-p.invariant.1 (labels a) (light a) (are a)).1)
+    down_all (x a) (t a).args.i (untils_of (x a) (labels a) (t a).args.bound) (rw (h, z_is a) at c.loop-p.invariant.1)

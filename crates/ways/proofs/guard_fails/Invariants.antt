@@ -1,6 +1,5 @@
 -- The loop goes through the guards on the ways by number. Assumes nothing.
 use mathlib.Core.Path.{◌≡◌}
-use Prim.Native.Nat.{◌-◌, ◌*◌}
 use Rattle.collector.specs.Cases.{items_of}
 use Rattle.meaning.specs.Judged.{start_of, tests_of}
 use Rattle.verdict.specs.Verdict.{first_not, passes}
@@ -9,6 +8,3 @@ use Rattle.ways.proofs.guard_fails.Given as goal
 
 abbrev pub invariant-loop-k : goal.invariant-loop-k
 invariant-loop-k l = first_not (passes (items_of l.c) (start_of (items_of l.c))) (tests_of (items_of l.c)) ≡ tests_from (items_of l.c) l.k
-
-abbrev pub decreases-loop-k : goal.decreases-loop-k
-decreases-loop-k l = 4 * l.c.count.places - l.k

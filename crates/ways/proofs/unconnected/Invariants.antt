@@ -1,6 +1,5 @@
 -- The loop goes through the ways by number. Assumes nothing.
 use mathlib.Core.Path.{◌≡◌}
-use Prim.Native.Nat.{◌-◌, ◌*◌}
 use Rattle.collector.specs.Cases.{items_of}
 use Rattle.meaning.specs.Judged.{ways_of}
 use Rattle.verdict.specs.Verdict.{first_not, connects}
@@ -9,6 +8,3 @@ use Rattle.ways.proofs.unconnected.Given as goal
 
 abbrev pub invariant-loop-k : goal.invariant-loop-k
 invariant-loop-k l = first_not (connects (items_of l.c)) (ways_of (items_of l.c)) ≡ ways_from (items_of l.c) l.k
-
-abbrev pub decreases-loop-k : goal.decreases-loop-k
-decreases-loop-k l = 2 * l.c.count.places - l.k

@@ -13,6 +13,6 @@ use Rattle.collector.proofs.Case.empty.Goals as goal
 pub returns : goal.returns
 unfolding empty_case loops_from move_of per_counter
 returns c =
-    let z : c.zero-drifts.result ≡ no_values = ap (λ (l : List ℤ). record { at = l }) c.zero-drifts.ensures in
+    let z : c.zero.result ≡ no_values = ap (λ (l : List ℤ). record { at = l }) c.zero.ensures in
     rw (no_places (items_by (λ k. [])) refl)
-    (simp (c.none-count.ensures, z, c.no_guard-guards.ensures, c.move_of-moves.ensures, c.no_place-places.ensures))
+    (simp (c.none.ensures, z, c.no_guard.ensures, c.move_of.ensures, c.no_place.ensures))

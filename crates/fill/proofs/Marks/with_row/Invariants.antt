@@ -1,5 +1,5 @@
 -- The loop fills the marks, place by place. Assumes nothing.
-use Prim.Native.Nat.{ℕ, ◌+◌, ◌*◌, ◌-◌, ◌^◌}
+use Prim.Native.Nat.{ℕ, ◌+◌, ◌*◌, ◌^◌}
 use lib.ListN.{get_or}
 use Rattle.laws.specs.Tab.{FilledTo}
 use Rattle.kinds.specs.declared.Kind.TheVariants as kind
@@ -15,6 +15,3 @@ new m i r p = marks_by m p + get_or r.at p 0 * 2 ^ i
 
 abbrev pub invariant-loop-p : goal.invariant-loop-p
 invariant-loop-p l = FilledTo (new l.self l.i l.row) (room_of kind.Place) l.marks l.p
-
-abbrev pub decreases-loop-p : goal.decreases-loop-p
-decreases-loop-p l = room_of kind.Place - l.p

@@ -1,74 +1,58 @@
 -- The case is judged, the loop looked up, and each end searched for. Assumes nothing.
-use mathlib.Core.Path.{◌≡◌, sym, ◌∙◌, ap, ap₂, subst}
+use Rattle.std.specs.Prelude.{Ok, Err}
+use Rattle.std.proofs.lemmas.Result.{err_from_is_err_and}
+use mathlib.Core.Path.{◌≡◌, sym, ◌∙◌, ap, ap₂}
 use Prim.Native.Nat.{ℕ, ◌<◌}
-use native.Mathlib.Omega.{arith}
 use lib.Dec.{lit≤}
 use lib.ListN.{length}
-use borrow.Author.Tests.{eq-eqb, ne_eqb}
-use Rattle.answers.specs.declared.Judgement.TheVariants.{Accepted}
-use Rattle.answers.specs.declared.Span.TheVariants.{Between}
 use Rattle.items.specs.Lists.{Items}
 use Rattle.rules.specs.Rules.{mark_at}
-use Rattle.meaning.specs.Judged.{start_of}
-use Rattle.meaning.specs.Spans.{IsCounted, MayHave}
-use Rattle.verdict.specs.Verdict.{verdict}
+use Rattle.meaning.specs.Spans.{MayHave}
 use Rattle.verdict.specs.Span.{loop_at, counted_rounds, last_rounds}
 use Rattle.collector.specs.Cases.{items_of}
-use Rattle.loops_laws.specs.Numbered.{counted_at, counted_held, counted_rounds_lem}
+use Rattle.loops_laws.specs.Numbered.{counted_held, counted_rounds_lem}
+use Rattle.loops.specs.Counted.{Found, found_none, found_some}
 use Rattle.loops.specs.Stages.{span_refused, span_none, span_between}
 use Rattle.loops.proofs.Plan.span.Goals as goal
-use Rattle.loops.proofs.Plan.span.Goals.{After-rounds_at-n, Else-n-eq0}
+use Rattle.loops.proofs.Plan.span.Goals.{In-Some}
+
+pub returns-in_err-judge : goal.returns-in_err-judge
+returns-in_err-judge c =
+    let p = err_from_is_err_and c.from_residual.result c.from_residual.ensures.1 in
+    p.1 ∙ ap Err p.2 ∙ sym (span_refused (items_of c.args.self.case) c.args.k c.in_err-judge.ensures)
 
 pub returns-in_default : goal.returns-in_default
-returns-in_default c = sym (span_refused (items_of c.args.self.case) c.args.k c.judge-judgement.ensures c.in_default.not-Accepted)
+returns-in_default c =
+    let x = items_of c.args.self.case in
+    sym (span_none x c.args.k (sym c.in_ok-judge.ensures) (found_none x c.args.k c.in_default.ensures))
 
--- the loop's first place, and its rounds
-module _ (c : After-rounds_at-n) where
+-- it is counted
+module _ (c : In-Some) where
   abbrev x : Items
   x = items_of c.args.self.case
 
-  abbrev p : ℕ
-  p = loop_at x.places c.args.k
+  found : Found x c.args.k c.in-Some.p c.in-Some.n
+  found = found_some x c.args.k c.in-Some.ensures
 
-  accepted : verdict x (start_of x) ≡ Accepted
-  accepted = sym c.judge-judgement.ensures ∙ c.in-Accepted.is
+  inside : c.in-Some.p < length x.places
+  inside = counted_held x.places c.args.k found.counted
 
-  rounds_are : c.rounds_at-n.result ≡ counted_rounds (mark_at x.places p)
-  rounds_are = c.rounds_at-n.ensures ∙ ap (λ q. counted_rounds (mark_at x.places q)) c.loop_at-p.ensures
+  may : MayHave c.in-Some.n
+  may = counted_rounds_lem c.requires found.counted
 
-pub returns-then-n-eq0 : goal.returns-then-n-eq0
-returns-then-n-eq0 c =
-    let r = (goal.at.returns-then-n-eq0 c).After-rounds_at-n in
-    sym (span_none (x r) c.args.k (accepted r) (eq-eqb _ 0 (sym (rounds_are r) ∙ c.if-n-eq0.true)))
-
--- it is counted
-module _ (c : Else-n-eq0) where
-  abbrev r : After-rounds_at-n
-  r = (goal.at.Else-n-eq0 c).After-rounds_at-n
-
-  counted : IsCounted (x r).places c.args.k (p r) (counted_rounds (mark_at (x r).places (p r)))
-  counted = counted_at (x r).places c.args.k (omega (arith, c.if-n-eq0.false, rounds_are r))
-
-  inside : c.loop_at-p.result < length (x r).places
-  inside = omega (arith, c.loop_at-p.ensures, counted_held (x r).places c.args.k counted)
-
-  may : MayHave c.rounds_at-n.result
-  may = subst MayHave (sym (rounds_are r)) (counted_rounds_lem c.requires counted)
-
-pub last_rounds-least-requires : goal.last_rounds-least-requires
-last_rounds-least-requires c =
-    let e = (goal.at.last_rounds-least-requires c).Else-n-eq0 in
-    (c.requires, inside e, may e, record { least = lit≤ tt; most = lit≤ tt })
+  same : (limit : ℕ) → last_rounds x c.in-Some.p c.in-Some.n limit ≡ (let p = loop_at x.places c.args.k in last_rounds x p (counted_rounds (mark_at x.places p)) limit)
+  same limit = ap₂ (λ q n. last_rounds x q n limit) found.place found.rounds
 
 pub last_rounds-requires : goal.last_rounds-requires
-last_rounds-requires c =
-    let e = (goal.at.last_rounds-requires c).Else-n-eq0 in
-    (c.requires, inside e, may e, record { least = lit≤ tt; most = lit≤ tt })
+last_rounds-requires c = (c.requires, inside c, may c, record { least = lit≤ tt; most = lit≤ tt })
+
+pub last_rounds-requires-2 : goal.last_rounds-requires-2
+last_rounds-requires-2 c =
+    let s = (goal.at.last_rounds-requires-2 c).In-Some in
+    (c.requires, inside s, may s, record { least = lit≤ tt; most = lit≤ tt })
 
 pub returns : goal.returns
 returns c =
-    let w = (goal.at.returns c).After-rounds_at-n in
-    let same : (limit : ℕ) → last_rounds (x w) c.loop_at-p.result c.rounds_at-n.result limit ≡ last_rounds (x w) (p w) (counted_rounds (mark_at (x w).places (p w))) limit =
-    λ limit. ap₂ (λ q n. last_rounds (x w) q n limit) c.loop_at-p.ensures (rounds_are w) in
-    ap₂ Between (c.last_rounds-least.ensures ∙ same 1) (c.last_rounds.ensures ∙ same 1000000)
-    ∙ sym (span_between (x w) c.args.k (accepted w) (ne_eqb _ 0 (λ d. c.if-n-eq0.false (rounds_are w ∙ d))))
+    let s = (goal.at.returns c).In-Some in
+    ap₂ (λ n m. Ok (n, m)) (c.last_rounds.ensures ∙ same s 1) (c.last_rounds-2.ensures ∙ same s 1000000)
+    ∙ sym (span_between (x s) c.args.k (sym c.in_ok-judge.ensures) (found s).some)

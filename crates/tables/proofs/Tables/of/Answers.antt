@@ -1,4 +1,5 @@
 -- The loop fills both tables: it has the first place of the stretch of place p, and the counters before the way into it. Assumes nothing.
+use borrow.Author.Rules.{rules}
 use mathlib.Core.Path.{◌≡◌, refl, sym, ◌∙◌, ap}
 use mathlib.Core.List.{List, []}
 use Prim.Native.Nat.{ℕ, ◌+◌, ◌≤◌, ◌<◌}
@@ -7,14 +8,13 @@ use native.Mathlib.Omega.{arith}
 use lib.IntN.{ℤ, pos}
 use lib.ListN.{length, get_or, set}
 use mir.Syntax.{w64}
-use mir.Val.{to_z}
-use mir.Facts.{to_z_pos}
+use mir.Val.{SFits, to_z, of_z}
+use mir.Facts.{to_z-of_z}
 use Rattle.kinds.specs.declared.Kind.TheVariants as kind
 use Rattle.counters.specs.Vectors.{vec_of, no_values}
 use Rattle.counters.specs.Values.{HasValues, has, values_same, sums_small, sums_are}
-use Rattle.items.specs.declared.Ref.{Ref}
 use Rattle.items.specs.declared.Place.{Place}
-use Rattle.items.specs.Lists.{Items, room_of}
+use Rattle.items.specs.Lists.{Items, room_of, no_item}
 use Rattle.collector.specs.Cases.{items_of, slot_of}
 use Rattle.rules_laws.specs.Held.{counted}
 use Rattle.meaning.specs.Run.{stretch, place_at}
@@ -33,7 +33,8 @@ use Rattle.tables.specs.Before.{before, with_way, rounds_done, rounds_kept}
 use Rattle.tables.specs.Sizes.{start_small, times_size, base_size, before_size}
 use Rattle.tables.specs.Stretches.{first_below, mark_is, drift_at_end, end_is, end_in}
 use Rattle.tables.proofs.Tables.of.Goals as goal
-use Rattle.tables.proofs.Tables.of.Goals.{then-t-lt-MOVES, else-t-lt-MOVES, After-repeats-k, After-slot-t, After-stretch, At-loop-p, In-loop-p, Joined-t-lt-MOVES, Start}
+use Rattle.tables.proofs.Tables.of.Goals.{then-q-stretch, else-q-stretch, then-t-lt-MOVES, else-t-lt-MOVES, After-slot-t, After-stretch, At-loop-p, In-loop-p, Joined-q-stretch, Joined-t-lt-MOVES, Start}
+use Rattle.items.specs.Items.{Ref}
 
 module _ (i : In-loop-p) where
   abbrev l : At-loop-p
@@ -60,13 +61,13 @@ module _ (i : In-loop-p) where
   known = facts t.args.c t.requires
 
   below : p < room_of kind.Place
-  below = omega (arith, i.loop-p-test.true, t.requires.room kind.Place)
+  below = omega (arith, t.requires.room kind.Place)
 
   held : p < length x.places
-  held = omega (arith, i.loop-p-test.true, counted t.args.c t.requires kind.Place)
+  held = omega (arith, counted t.args.c t.requires kind.Place)
 
   first : l.loop-p.q < room_of kind.Place
-  first = first_below t.requires p below l.loop-p.invariant.1
+  first = first_below t.requires p below l.loop-p.invariant.0
 
   -- the move into the place, and the counters before it
   abbrev into : Ref
@@ -76,7 +77,7 @@ module _ (i : In-loop-p) where
   ahead j = before x θ j p
 
   next_firsts : Begun (first_of x.places) 0 (set l.loop-p.firsts p l.loop-p.q) (p + 1)
-  next_firsts = go_on l.loop-p.invariant.3 l.loop-p.invariant.1 below
+  next_firsts = go_on l.loop-p.invariant.2 l.loop-p.invariant.0 below
 
 slot_is : (c : After-slot-t) → c.slot-t.result ≡ slot_of (into (goal.at.After-slot-t c).In-loop-p)
 slot_is c = let i = (goal.at.After-slot-t c).In-loop-p in c.slot-t.ensures ∙ ap (λ (q : Place). slot_of q.way) (at_places (t i).requires (p i))
@@ -89,7 +90,7 @@ module _ (c : Joined-t-lt-MOVES) where
   filled : c.if-t-lt-MOVES.v ≡ vec_of (λ j. base (x a) (θ a) j (p a))
   filled =
       let s = (t a).requires in
-      let e = (l a).loop-p.invariant.2 in
+      let e = (l a).loop-p.invariant.1 in
       let k = slot_is (goal.at.Joined-t-lt-MOVES c).After-slot-t in
       elim c.if-t-lt-MOVES.branch [
         | then-t-lt-MOVES w ↦ w.v-is ∙ more s (into a) k (ahead a) e _ w.if-t-lt-MOVES.true w.plus-v.ensures.0
@@ -98,7 +99,7 @@ module _ (c : Joined-t-lt-MOVES) where
       ∙ with_way (known a) (θ a) (p a)
 
   next_bases : Begun (values_of (base (x a) (θ a))) no_values (set (l a).loop-p.bases (p a) c.if-t-lt-MOVES.v) (p a + 1)
-  next_bases = go_on (l a).loop-p.invariant.4 filled (below a)
+  next_bases = go_on (l a).loop-p.invariant.3 filled (below a)
 
 -- the turn of the loop that n names, and where the stretch ends
 module _ (c : After-stretch) where
@@ -109,42 +110,57 @@ module _ (c : After-stretch) where
   n = a b
 
   ends : (l n).loop-p.q + c.stretch.result ≡ q n + stretch (loop_of (x n).places (p n))
-  ends = end_is (t n).requires (p n) (below n) (l n).loop-p.invariant.1 c.stretch.ensures
+  ends = end_is (t n).requires (p n) (below n) (l n).loop-p.invariant.0 c.stretch.ensures
 
--- what the rounds add
-module _ (c : After-repeats-k) where
-  abbrev s : After-stretch
-  s = (goal.at.After-repeats-k c).After-stretch
-
-  abbrev e : In-loop-p
-  e = n s
-
-  -- how often the stretch is gone through again
+  -- what the rounds add: how often the stretch is gone through again
   abbrev times : ℕ
-  times = repeats (loop_of (x e).places (p e))
+  times = repeats (loop_of (x n).places (p n))
 
-  times_are : to_z w64 c.repeats-k.result ≡ pos times
-  times_are =
-      to_z_pos w64 (omega arith) ∙ ap pos (c.repeats-k.ensures ∙ ap repeats (mark_is (t e).requires (p e) (below e) (l e).loop-p.invariant.1))
+  times_are : {r : ℕ} {f : ℤ} → r ≡ repeats (get_or (t n).args.c.places (l n).loop-p.q (no_item kind.Place)).mark → f ≡ pos r → SFits w64 f → to_z w64 (of_z w64 f) ≡ pos times
+  times_are e g h = to_z-of_z h ∙ g ∙ ap pos (e ∙ ap repeats (mark_is (t n).requires (p n) (below n) (l n).loop-p.invariant.0))
 
-  done : q e + stretch (loop_of (x e).places (p e)) ≤ p e + 1
-  done = omega (arith, ends s, c.if-q-stretch.true)
+  base_has : HasValues b.if-t-lt-MOVES.v (λ j. base (x n) (θ n) j (p n))
+  base_has = has _ (filled b)
 
-  base_has : HasValues (b s).if-t-lt-MOVES.v (λ j. base (x e) (θ e) j (p e))
-  base_has = has _ (filled (b s))
+  drift_has : q n + stretch (loop_of (x n).places (p n)) ≤ p n + 1 → HasValues (get_or (t n).args.c.drifts (l n).loop-p.q (record { at = [] })) (λ j. drift (x n) j (q n))
+  drift_has done = has _ (drift_at_end (t n).requires (p n) (below n) (l n).loop-p.invariant.0 _ (held n) done)
 
-  drift_has : HasValues (get_or (t e).args.c.drifts (l e).loop-p.q (record { at = [] })) (λ j. drift (x e) j (q e))
-  drift_has = has _ (drift_at_end (t e).requires (p e) (below e) (l e).loop-p.invariant.1 _ (held e) done)
+-- the first place of the next place's stretch, and the counters before the way into it
+module _ (c : Joined-q-stretch) where
+  abbrev k : After-stretch
+  k = (goal.at.Joined-q-stretch c).After-stretch
+
+  abbrev i : In-loop-p
+  i = n k
+
+  next_q : c.if-q-stretch.q ≡ first_of (x i).places (p i + 1)
+  next_q =
+      elim c.if-q-stretch.branch [
+        | then-q-stretch w ↦ w.q-is ∙ rw add-one (sym (first_out (x i).places (p i) (omega (arith, ends k, w.if-q-stretch.true))))
+        | else-q-stretch w ↦ w.q-is ∙ rw (add-one, first_on (x i).places (p i) (omega (arith, ends k, w.if-q-stretch.false))) (l i).loop-p.invariant.0
+      ]
+
+  next_v : c.if-q-stretch.v ≡ vec_of (λ j. before (x i) (θ i) j (p i + 1))
+  next_v =
+      elim c.if-q-stretch.branch [
+        | then-q-stretch w ↦
+            let f : SFits w64 w.from.result = search rules in
+            let done : q i + stretch (loop_of (x i).places (p i)) ≤ p i + 1 = omega (arith, ends k, w.if-q-stretch.true) in
+            w.v-is ∙ sums_are _ (times_are k w.repeats.ensures w.from.ensures f) (base_has k) (drift_has k done) w.more-v.ensures (λ j. rounds_done (x i) (θ i) j (p i) done)
+        | else-q-stretch w ↦
+            let h : p i + 1 < q i + stretch (loop_of (x i).places (p i)) = omega (arith, ends k, w.if-q-stretch.false) in
+            w.v-is ∙ filled (b k) ∙ values_same _ _ (λ j _. rounds_kept (x i) (θ i) j (p i) h)
+      ]
 
 pub loop-p-init : goal.loop-p-init
 unfolding first_of before
-loop-p-init c = (omega arith, refl, c.start-v.ensures, begin refl, begin (ap (λ (l : List ℤ). record { at = l }) c.zero-bases.ensures))
+loop-p-init c = (refl, c.start-v.ensures, begin refl, begin (ap (λ (l : List ℤ). record { at = l }) c.zero-bases.ensures))
 
 pub plus-v-requires : goal.plus-v-requires
 plus-v-requires c j k =
     let i = (goal.at.plus-v-requires c).In-loop-p in
     let h = below i in
-    rw ((has (ahead i) (l i).loop-p.invariant.2).each j k) (omega (arith, before_size (known i) j (θ i) (start_small (known i) j) (p i) (omega arith)))
+    rw ((has (ahead i) (l i).loop-p.invariant.1).each j k) (omega (arith, before_size (known i) j (θ i) (start_small (known i) j) (p i) (omega arith)))
 
 pub overflow_cast-firsts : goal.overflow_cast-firsts
 overflow_cast-firsts c = record { fits = omega (arith, first (a c)) }
@@ -158,41 +174,26 @@ bounds-places-q c = first (a c)
 pub overflow_add-q : goal.overflow_add-q
 overflow_add-q c =
     let i = n c in
-    record { fits = omega (arith, end_in (t i).requires (p i) (below i) (l i).loop-p.invariant.1 c.stretch.ensures) }
+    record { fits = omega (arith, end_in (t i).requires (p i) (below i) (l i).loop-p.invariant.0 c.stretch.ensures) }
 
 pub more-v-requires : goal.more-v-requires
 more-v-requires c =
-    let i = e c in
+    let k = (goal.at.more-v-requires c).After-stretch in
+    let i = n k in
+    let f : SFits w64 c.from.result = search rules in
+    let done : q i + stretch (loop_of (x i).places (p i)) ≤ p i + 1 = omega (arith, ends k, c.if-q-stretch.true) in
     let h = below i in
-    sums_small (pos (times c)) (times_are c) (base_has c) (drift_has c)
+    sums_small (pos (times k)) (times_are k c.repeats.ensures c.from.ensures f) (base_has k) (drift_has k done)
     (λ j. omega (arith, base_size (known i) j (θ i) (start_small (known i) j) (p i) (omega arith), times_size (known i) j (p i) h))
-
-pub loop-p-preserved-then-q-stretch : goal.loop-p-preserved-then-q-stretch
-loop-p-preserved-then-q-stretch c =
-    let r = (goal.at.loop-p-preserved-then-q-stretch c).After-repeats-k in
-    let i = e r in (
-      omega arith,
-      rw add-one (sym (first_out (x i).places (p i) (omega (arith, done r)))),
-      sums_are _ (times_are r) (base_has r) (drift_has r) c.more-v.ensures (λ j. rounds_done (x i) (θ i) j (p i) (done r)),
-      next_firsts i,
-      next_bases (b (s r)),
-    )
 
 pub loop-p-preserved : goal.loop-p-preserved
 loop-p-preserved c =
-    let k = (goal.at.loop-p-preserved c).After-stretch in
-    let i = n k in
-    let h : p i + 1 < q i + stretch (loop_of (x i).places (p i)) = omega (arith, ends k, c.if-q-stretch.false) in (
-      omega arith,
-      rw (add-one, first_on (x i).places (p i) (omega arith)) (l i).loop-p.invariant.1,
-      filled (b k) ∙ values_same _ _ (λ j _. rounds_kept (x i) (θ i) j (p i) h),
-      next_firsts i,
-      next_bases (b k),
-    )
+    let d = (goal.at.loop-p-preserved c).Joined-q-stretch in
+    (next_q d, next_v d, next_firsts (i d), next_bases (b (k d)))
 
 pub returns : goal.returns
 returns c =
     let m = (goal.at.returns c).At-loop-p in
     let s = (goal.at.At-loop-p m).Start in
     let e : m.loop-p.p ≡ s.args.c.count.places = omega arith in
-    rw (m.loop-p.invariant.3.so, m.loop-p.invariant.4.so, e, counted s.args.c s.requires kind.Place)
+    rw (m.loop-p.invariant.2.so, m.loop-p.invariant.3.so, e, counted s.args.c s.requires kind.Place)

@@ -1,6 +1,5 @@
 -- The loop fills both tables: it has the first place of the stretch of place p, and the counters before the way into it. Assumes nothing.
 use mathlib.Core.Path.{◌≡◌}
-use Prim.Native.Nat.{◌-◌, ◌≤◌}
 use Rattle.counters.specs.Vectors.{vec_of, no_values}
 use Rattle.collector.specs.Cases.{items_of}
 use Rattle.meaning.specs.Judged.{start_of}
@@ -13,11 +12,7 @@ use Rattle.tables.proofs.Tables.of.Given as goal
 
 abbrev pub invariant-loop-p : goal.invariant-loop-p
 invariant-loop-p l =
-    (l.p ≤ l.c.count.places)
-    × (l.q ≡ first_of (items_of l.c).places l.p)
-    × (l.v ≡ vec_of (λ j. before (items_of l.c) (start_of (items_of l.c)) j l.p))
-    × Begun (first_of (items_of l.c).places) 0 l.firsts l.p
-    × Begun (values_of (base (items_of l.c) (start_of (items_of l.c)))) no_values l.bases l.p
-
-abbrev pub decreases-loop-p : goal.decreases-loop-p
-decreases-loop-p l = l.c.count.places - l.p
+    (l.q ≡ first_of (items_of l.fn.c).places l.p)
+    × (l.v ≡ vec_of (λ j. before (items_of l.fn.c) (start_of (items_of l.fn.c)) j l.p))
+    × Begun (first_of (items_of l.fn.c).places) 0 l.firsts l.p
+    × Begun (values_of (base (items_of l.fn.c) (start_of (items_of l.fn.c)))) no_values l.bases l.p

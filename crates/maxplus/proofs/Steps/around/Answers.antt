@@ -8,11 +8,11 @@ use Rattle.kinds.specs.declared.Kind.TheVariants as kind
 use Rattle.items.specs.Lists.{room_of}
 use Rattle.rounds.specs.Last.{most_rounds}
 use Rattle.maxplus.specs.Over.{round_slight}
-use Rattle.maxplus.proofs.around.Goals as goal
+use Rattle.maxplus.proofs.Steps.around.Goals as goal
 
 pub power-w-requires : goal.power-w-requires
 power-w-requires c =
     let v_read : to_z w64 (of_z w64 c.args.v) ≡ c.args.v = to_z-of_z c.ranges.v in
     let room : c.args.q + c.in-Counted.length ≤ room_of kind.Place = simp c.in-Counted.is at c.requires.0 in
     let few : c.repeats.result ≤ most_rounds = rw c.repeats.ensures (simp c.in-Counted.is at c.requires.1.1.0) in
-    rw (c.over-r.ensures, v_read) (round_slight c.requires.1.0 _ _ _ _ room few c.requires.1.1.1)
+    rw (c.over-r.ensures, c.from.ensures, v_read) (round_slight c.requires.1.0 _ _ _ _ room few c.requires.1.1.1)

@@ -2,14 +2,10 @@
 use mathlib.Core.Path.{◌≡◌}
 use Prim.Native.Nat.{◌+◌, ◌-◌, ◌≤◌}
 use Rattle.maxplus.specs.Numbers.{entry_at, within_by, sum_by}
-use Rattle.maxplus.proofs.over.Given as goal
+use Rattle.maxplus.proofs.Steps.over.Given as goal
 
 abbrev pub invariant-loop-i : goal.invariant-loop-i
 invariant-loop-i l =
     (l.p ≤ l.i)
-    × ((l.i ≤ l.p + l.n)
-    × ((l.within ≡ within_by (entry_at l.stops) (entry_at l.goes) l.i (l.p + l.n - l.i))
-    × (l.sum ≡ sum_by (entry_at l.goes) l.i (l.p + l.n - l.i))))
-
-abbrev pub decreases-loop-i : goal.decreases-loop-i
-decreases-loop-i l = l.i
+    × (l.within ≡ within_by (entry_at l.fn.self.stops) (entry_at l.fn.self.goes) l.i (l.p + l.n - l.i))
+    × (l.sum ≡ sum_by (entry_at l.fn.self.goes) l.i (l.p + l.n - l.i))
