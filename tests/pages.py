@@ -83,9 +83,9 @@ def with_changes(data, changes):
 
 
 def results_defined():
-    """The numbers of all results in their order: of the tests of a record, then of what a judgement says."""
+    """The numbers of all results in their order: of the tests of a record, then of what a judgement says. (`Ok tt` is 0, `Err` of a variant another.)"""
     answers, judged = ((CRATES / path).read_text(encoding="utf-8") for path in (ANSWERS, JUDGED))
-    told = dict(re.findall(r"^told \(?(\w+).* = \((\d+),", answers, re.M))
-    numbers_of = dict(re.findall(r"^numbers_of \(?(\w+).* = numbers (\d+)", answers, re.M))
-    tested = re.findall(r"[A-Z]\w+", re.search(r"^test_order f =\n(.*)", answers, re.M)[1])
-    return [int(told[name]) for name in tested] + [int(numbers_of[name]) for name in re.findall(r"^Judged x θ \(?(\w+)", judged, re.M)]
+    told = dict(re.findall(r"^told \((?:Err \(?)?(\w+).* = \((\d+),", answers, re.M))
+    numbers_of = dict(re.findall(r"^numbers_of \((?:Err \(?)?(\w+).* = numbers (\d+)", answers, re.M))
+    tested = re.findall(r"Err \(?(\w+)", re.search(r"^test_order f =\n(.*)", answers, re.M)[1])
+    return [int(told[name]) for name in tested] + [int(numbers_of[name]) for name in re.findall(r"^Judged x θ \((?:Err \(?)?(\w+)", judged, re.M)]
