@@ -1,4 +1,4 @@
--- A file of one record gives what taking it gives, and bytes that are no record are taken as that. Assumes nothing.
+-- A file of one record gives what taking it gives, and bytes of another length are refused as no record. Assumes nothing.
 use Rattle.std.specs.Prelude.{Err, Ok}
 use mathlib.Core.Path.{◌≡◌, refl, ◌∙◌, sym, ap}
 use mathlib.Core.Bool.{Bool, true, false, cond}

@@ -117,6 +117,7 @@ pub fn first_off(c: Case, t: Tables, start: usize) -> Option<Off>
     requires { (Sound c) × (t ≡ tables_of (items_of c)) × (Closed (items_of c)) }
     ensures { result ≡ first_off_from (items_of c) start }
 {
+    // an array of its own, as in `next_row`
     let sentences = c.sentences;
     for i in start..c.count.sentences {
         let form = sentences[i].form;
