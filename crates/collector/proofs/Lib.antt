@@ -1,3 +1,4 @@
 pub mod Laws
+pub mod OneRecord
 pub mod Moves
 pub mod Drifts

@@ -60,7 +60,7 @@ fills_alike = fills.fills_alike
 
 -- ---- the checks before filling
 
--- they give the judgement's own 24, 31, 32 or 33, or Accepted, and then none of these applies
+-- they give the judgement's own 24, 31, 32 or 33, or `Ok tt`, and then none of these applies
 pub checked : (c : Case) → Sound c → (θ : Valuation) → Checked (items_of c) θ (before_marks (items_of c) θ)
 checked = checks.checked
 

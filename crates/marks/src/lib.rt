@@ -60,13 +60,15 @@ fn next_row(c: Case, firsts: Firsts, i: u8, a: u8) -> Row
     requires { (Sound c) × (firsts ≡ firsts_of (items_of c).places) }
     ensures { result ≡ row_of (items_of c) i (next_through (items_of c) a) }
 {
+    // an array of its own: where a loop reads c itself, all of it is copied
+    let places = c.places;
     let mut row = [0u8; Case::PLACES];
     let mut off = false;
     let mut out = false;
     for p in (0..c.count.places).rev() {
         let q = firsts.at[p] as usize;
-        let first = c.places[q];
-        let here = c.places[p];
+        let first = places[q];
+        let here = places[p];
         let t = next_through(p, q, first.mark, rounds::bit(first.marks, a), out);
         let code = rounds::code(t);
         row[p] = code;
@@ -94,12 +96,15 @@ fn simple_row(c: Case, i: u8, form: Form) -> Row
     requires { Sound c }
     ensures { result ≡ row_of (items_of c) i (simple_through (items_of c) form) }
 {
+    // arrays of their own, as in `next_row`
+    let states = c.states;
+    let places = c.places;
     let mut row = [0u8; Case::PLACES];
     let mut off = false;
     for p in 0..c.count.places {
-        let place = c.places[p];
+        let place = places[p];
         let s = place.state as usize;
-        let code = rounds::mark_code(same_always(form, c.states[s].propositions, place.marks));
+        let code = rounds::mark_code(same_always(form, states[s].propositions, place.marks));
         row[p] = code;
         off = rounds::off_by(off, code, rounds::bit(place.marks, i));
     }
@@ -112,8 +117,10 @@ pub fn first_off(c: Case, t: Tables, start: usize) -> Option<Off>
     requires { (Sound c) × (t ≡ tables_of (items_of c)) × (Closed (items_of c)) }
     ensures { result ≡ first_off_from (items_of c) start }
 {
+    // an array of its own, as in `next_row`
+    let sentences = c.sentences;
     for i in start..c.count.sentences {
-        let form = c.sentences[i].form;
+        let form = sentences[i].form;
         let k = i as u8;
         let row = match form {
             Form::True | Form::Proposition(_) | Form::And(_, _) | Form::Not(_) => {

@@ -70,7 +70,7 @@ taken c bs s h =
 pub case_is : (c : Case) → Sound c → c ≡ case_of (items_of c)
 case_is c s = s.same
 
--- the empty case is sound, and every record, taken or refused, keeps a case so: what `take` and `take_all` hand back may be gone on with, and judged
+-- the empty case is sound, and every record, taken or refused, keeps a case so: what `take` hands back and `take_all` leaves may be gone on with, and judged
 pub empty_sound : Sound empty_case
 empty_sound = sound_empty
 

@@ -1,4 +1,4 @@
--- The case that filling in the marks hands back, filled or not.
+-- The case that filling in the marks leaves, filled or not.
 use Rattle.std.specs.Prelude.{List, ℕ}
 use Rattle.items.specs.File.{file_of}
 use Rattle.collector.specs.declared.Case.{Case}

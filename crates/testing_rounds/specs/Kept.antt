@@ -1,4 +1,4 @@
--- The case that setting a loop's rounds hands back, set or not.
+-- The case that setting a loop's rounds leaves, set or not.
 use Rattle.std.specs.Prelude.{List, ℕ}
 use Rattle.items.specs.File.{file_of}
 use Rattle.collector.specs.declared.Case.{Case}

@@ -31,7 +31,7 @@ PrintedFor word bs p₀ w p =
     let out = output_of word bs in
     (w ≡ written_of out (length p₀)) × ((p ≡ buffer_after out p₀) × ((out ≡ output_of word (take enough bs)) × (length out ≤ most_printed)))
 
-printed_for : (word : Case → List ℕ) (bs p₀ : List ℕ) {w : Written} {p out : List ℕ} → output_of word bs ≡ out → Printed out p₀ w p → PrintedFor word bs p₀ w p
+pub printed_for : (word : Case → List ℕ) (bs p₀ : List ℕ) {w : Written} {p out : List ℕ} → output_of word bs ≡ out → Printed out p₀ w p → PrintedFor word bs p₀ w p
 printed_for word bs p₀ e h =
     let q = printed_as p₀ e h in
     (q.0, (q.1.0, (sym (ap (output_after word) (collected_bounded bs)), q.1.1)))
@@ -58,10 +58,14 @@ module _ (word : Case → List ℕ) (bs p₀ : List ℕ) {r : Result Case Told} 
 
 -- ---- what was made
 
--- a case was made where the answer says so
+-- a case was made, or a record taken, where the answer says so
 pub marked_ok : (a : Filling) → is_ok a ≡ is_marked a
 marked_ok (Ok tt) = refl
 marked_ok (Err a) = refl
+
+pub taken_ok : (a : Answer) → is_ok a ≡ is_taken a
+taken_ok (Ok tt) = refl
+taken_ok (Err a) = refl
 
 pub set_ok : (a : Setting) → is_ok a ≡ is_set a
 set_ok (Ok tt) = refl

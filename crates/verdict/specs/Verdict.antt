@@ -131,7 +131,7 @@ judgement_by x true true nowhere nowhere (at k) r = Err (WrongMark (record { 0 =
 judgement_by x true true nowhere nowhere nowhere false = Err (RootUnmarked (root x))
 judgement_by x true true nowhere nowhere nowhere true = Ok tt
 
--- the first of 24, 31, 32 and 33 that applies; Accepted where none does
+-- the first of 24, 31, 32 and 33 that applies; `Ok tt` where none does
 unfoldable pub before_marks : Items → Valuation → Judgement
 before_marks x θ = judgement_by x (finished x) (eqb (state_at x 0) 0) (first_not (connects x) (ways_of x)) (first_not (passes x θ) (tests_of x)) nowhere true
 

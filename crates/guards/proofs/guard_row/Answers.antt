@@ -76,15 +76,15 @@ module _ (c : After-rounds_of-rounds) where
 
   known :
       Known (x (t l)) (start_of (x (t l))) (t l).args.g (p l) l.guard_at-guard.result
-      (get_or (t l).args.t.bases.at (p l) (record { at = [] })) (get_or (t l).args.c.drifts (q l) (record { at = [] }))
+      (get_or (t l).args.t.bases.at (p l) (record { at = [] })) (get_or (t l).args.c.drifts c.from-q.result (record { at = [] }))
   known =
       let s = (t l).requires.0 in
       let e = (t l).requires.1 in
-      record {
+      rw c.from-q.ensures (record {
         guard = l.guard_at-guard.ensures;
         base = base_is s e (p l) (inside l) _;
         drift = drift_is s (t l).requires.2 (ap (λ (t : Tables). t.firsts) e) (p l) (inside l) _;
-      }
+      })
 
   rounds : c.rounds_of-rounds.result ≡ rounds_of (loop_of (x (t l)).places (p l))
   rounds = rw c.from-q.ensures at c.rounds_of-rounds.ensures ∙ rounds_are (t l).requires.0 (ap (λ (t : Tables). t.firsts) (t l).requires.1) (p l) (inside l)
@@ -93,7 +93,7 @@ pub guard_through-requires : goal.guard_through-requires
 guard_through-requires c =
     let r = (goal.at.guard_through-requires c).After-rounds_of-rounds in
     let e = l r in
-    rw c.from-q.ensures (guard_fits (facts (t e).args.c (t e).requires.0) (known r) (rounds r) (room e))
+    guard_fits (facts (t e).args.c (t e).requires.0) (known r) (rounds r) (room e)
 
 -- what is found is the code of place p
 module _ (c : After-code-code) where
@@ -103,7 +103,7 @@ module _ (c : After-code-code) where
   is : c.code-code.result ≡ code_of (guard_of (x (t i)) (t i).args.g (p i))
   is =
       c.code-code.ensures
-      ∙ ap code_of (rw c.from-q.ensures at c.guard_through.ensures ∙ guard_is (facts (t i).args.c (t i).requires.0) (known (goal.at.After-code-code c).After-rounds_of-rounds) (rounds (goal.at.After-code-code c).After-rounds_of-rounds))
+      ∙ ap code_of (c.guard_through.ensures ∙ guard_is (facts (t i).args.c (t i).requires.0) (known (goal.at.After-code-code c).After-rounds_of-rounds) (rounds (goal.at.After-code-code c).After-rounds_of-rounds))
 
 pub loop-p-preserved : goal.loop-p-preserved
 loop-p-preserved c =

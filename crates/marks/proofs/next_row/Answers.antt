@@ -44,8 +44,8 @@ loop-p-init c =
     let k = counted t.args.c t.requires.0 kind.Place in
     (sym (unmarked x t.args.a n (omega (arith, k))), down_none x t.args.i (next_through x t.args.a) (omega (arith, k)))
 
-pub bounds-c-q : goal.bounds-c-q
-bounds-c-q c = within (goal.at.bounds-c-q c).In-loop-p
+pub bounds-places-q : goal.bounds-places-q
+bounds-places-q c = within (goal.at.bounds-places-q c).In-loop-p
 
 pub next_through-t-requires : goal.next_through-t-requires
 next_through-t-requires c =

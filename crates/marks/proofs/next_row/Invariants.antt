@@ -9,5 +9,5 @@ use Rattle.marks.proofs.next_row.Given as goal
 
 abbrev pub invariant-loop-p : goal.invariant-loop-p
 invariant-loop-p l =
-    let x = items_of l.c in
+    let x = items_of l.fn.c in
     (l.out ≡ marked x l.a l.p) × DownTo x l.i (next_through x l.a) l.row l.off l.p

@@ -31,8 +31,8 @@ module _ (c : Start) where
 pub loop-p-init : goal.loop-p-init
 loop-p-init c = let t = (goal.at.loop-p-init c).Start in up_none (x t) t.args.i (f t)
 
-pub bounds-c-s : goal.bounds-c-s
-bounds-c-s c = state_within c.requires c.loop-p.p
+pub bounds-states-s : goal.bounds-states-s
+bounds-states-s c = state_within c.requires c.loop-p.p
 
 -- what is found is the code of place p, which is held
 module _ (c : After-mark_code-code) where

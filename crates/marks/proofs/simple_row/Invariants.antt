@@ -6,5 +6,5 @@ use Rattle.marks.proofs.simple_row.Given as goal
 
 abbrev pub invariant-loop-p : goal.invariant-loop-p
 invariant-loop-p l =
-    let x = items_of l.c in
+    let x = items_of l.fn.c in
     UpTo x l.i (simple_through x l.form) l.row l.off l.p
