@@ -1,7 +1,7 @@
 -- A file of one record gives what taking it gives, and bytes of another length are refused as no record. Assumes nothing.
 use Rattle.std.specs.Prelude.{Err, Ok}
 use mathlib.Core.Path.{◌≡◌, refl, ◌∙◌, sym, ap}
-use mathlib.Core.Bool.{Bool, true, false, cond}
+use mathlib.Core.Bool.{cond}
 use mathlib.Core.List.{List, [], ◌∷◌}
 use Prim.Native.Nat.{ℕ, ◌-◌}
 use native.Mathlib.Omega.{arith}
@@ -11,7 +11,7 @@ use borrow.Author.Tests.{ne_eqb}
 use Rattle.record.specs.Layout.{record_length, cut}
 use Rattle.answers.specs.declared.Refusal.TheVariants.{NotARecord}
 use Rattle.answers.specs.Answers.{Answer, is_taken}
-use Rattle.checks.specs.Input.{Head, head_of}
+use Rattle.checks.specs.Input.{head_of}
 use Rattle.collector.specs.declared.Case.{Case}
 use Rattle.collector.specs.declared.Taken.{Taken}
 use Rattle.collector.specs.Taking.{Collected, taken_by, taken_of, collected_from, collected_of}
